@@ -24,7 +24,7 @@ use Rattle.lexer.specs.Item.{Item, Item.start, Item.end, Item.empty, Item.text
 use Rattle.lexer.specs.Lex.{itemAt, lex}
 use Rattle.lexer.specs.BadTag.{BadTag}
 use Rattle.lexer.specs.Exact.{NoText, LawfulItem, Begins, Lexing-is-exact}
-use Rattle.lexer.proofs.Fronts.{item-front}
+use Rattle.lexer.proofs.Fronts.{Item-front, item-front}
 use Rattle.lexer.proofs.Tags.{tag-at, tagged}
 use Rattle.lexer.proofs.Judging.{bad-tag, bad-refused}
 
@@ -136,3 +136,8 @@ lexing-is-exact = record
   { items = λ p bs i. (begins p bs i, λ h. ap (lex p) (h .2) ∙ tag-lexed p i (h .0) (h .1))
   ; ended = λ p bs. (ended p bs, λ e. ap (lex p) e)
   ; refused = λ p bs f. (goes-wrong p bs f, λ h. refused p bs (h .0) f (h .1) (h .2)) }
+
+-- an item that was lexed is the front of the text
+pub lexed-front : (p : ℕ) (bs : List ℕ) (i : Item) → lex p bs ≡ Ok (Some i) → Item-front bs i
+lexed-front p [] i e = let z : _≡_ {A = ℕ} 0 1 = cc in absurd (omega arith)
+lexed-front p (b ∷ bs) i e = item-front p b bs i (item-of (itemAt p (b ∷ bs)) i e)

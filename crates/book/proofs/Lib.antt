@@ -1,0 +1,6 @@
+mod Search
+mod Entering
+mod Steps
+mod Naming
+mod Consistency
+mod Runs

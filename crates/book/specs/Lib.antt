@@ -1,0 +1,5 @@
+pub mod Parts
+pub mod Document
+pub mod Reading
+pub mod Refusing
+pub mod Views
