@@ -13,6 +13,7 @@ ghost use Rattle.book.specs.Document.{position, intern};
 ghost use Rattle.book.specs.Reading.{Different, Consistent, enter, initial, step, treeOfState, finished, readBook};
 ghost use Rattle.book.specs.Parts.{bytesOf};
 ghost use Rattle.book.specs.Views.{stateOf, treeOf, Answers};
+ghost use Rattle.book.specs.Answer.{ReadsBook};
 use crate::book::Book;
 use crate::names::Names;
 use lexer::Lexer;
@@ -188,4 +189,11 @@ fn read_items<'t>(heap: Global, text: &'t [u8]) -> Result<Book<'t>, Error>
     let Reader { elements, names, opens: _ } = reader;
     let Names { list, slots: _ } = names;
     Ok(Book { elements, names: list })
+}
+
+// The elements and names of a book text, or the first refusal with its place.
+pub fn read<'t>(heap: Global, text: &'t [u8]) -> Result<Book<'t>, Error>
+    ensures { λ r. ⌜ ReadsBook (now (text .entry)) r ⌝ }
+{
+    read_items(heap, text)
 }

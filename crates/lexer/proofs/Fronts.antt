@@ -93,7 +93,7 @@ item-spelled p (b ∷ c ∷ cs) =
 some-text : (b : ℕ) (bs : List ℕ) → eqb b 60 ≡ false → 0 < leading textByte (b ∷ bs)
 some-text b bs e = rw (e, cond) (omega arith)
 
-item-some : (p b : ℕ) (bs : List ℕ) → Granted (λ i. 0 < length (spelling i)) (itemAt p (b ∷ bs))
+pub item-some : (p b : ℕ) (bs : List ℕ) → Granted (λ i. 0 < length (spelling i)) (itemAt p (b ∷ bs))
 item-some p b bs =
     either (eqb b 60) _ _
     (λ _. either (eqb (getD bs 0 0) 47) _ _
