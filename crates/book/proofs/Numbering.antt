@@ -11,6 +11,7 @@ use Rattle.std.proofs.shelf.Lists.{nil-from-length}
 use Rattle.std.proofs.shelf.Tests.{cases-lt}
 use Rattle.tree.specs.declared.element.Element.{Element}
 use Rattle.tree.specs.Tree.{Tree, FirstUses}
+use Rattle.tree.proofs.Trees.{uses-grow}
 use Rattle.book.specs.Document.{Node, position, intern, numbered, named, indexed}
 use Rattle.book.specs.Reading.{Different}
 use Rattle.book.specs.Answer.{nodeOf, nodesOf}
@@ -66,10 +67,6 @@ pub names-are-numbered : Names-are-numbered
 names-are-numbered ns = numbers [] ns
 
 -- A tree whose names are different and numbered by first use is the one of its elements.
-
-uses-grow : (n : ℕ) (es : List Element) (m : ℕ) → FirstUses n es m → n ≤ m
-uses-grow n [] m h = omega arith
-uses-grow n (e ∷ es) m h = let r = uses-grow (max n (e .name + 1)) es m (h .1) in omega arith
 
 module _ (N : List (List ℕ)) (different : Different N) where
   Again : List Element → List (List ℕ) → Type 0
