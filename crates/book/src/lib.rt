@@ -1,6 +1,6 @@
 // The reader of book texts: from text to its elements and names, or to the first refusal.
 pub mod book;
-pub mod names;
+mod names;
 pub mod promises;
 pub mod reader;
 

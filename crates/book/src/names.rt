@@ -41,16 +41,16 @@ fn position_of(names: &[&[u8]], name: &[u8]) -> usize
 
 // The names so far.
 #[derive(Drop)]
-pub struct Names<'t> {
+pub(crate) struct Names<'t> {
     // The names, each once.
-    pub list: Vec<&'t [u8]>,
+    pub(crate) list: Vec<&'t [u8]>,
     // Numbers of names, each plus one, from the slot of its hash on, and 0 in free slots. They only tell where to look: what is
     // found there is compared with the name that is looked up.
-    pub slots: [u16; SLOTS],
+    pub(crate) slots: [u16; SLOTS],
 }
 
 impl<'t> Names<'t> {
-    pub fn new(heap: Global) -> Self
+    pub(crate) fn new(heap: Global) -> Self
         ensures { λ r. ⌜ vec-items (r .list) ≡ [] ⌝ }
     {
         Names { list: Vec::new(heap), slots: [0; SLOTS] }
@@ -58,7 +58,7 @@ impl<'t> Names<'t> {
 
     // The number of this name, or how many names there are where it is a new one. A name that is there is found through the slots; a
     // new one is looked for in the whole list, once.
-    pub fn number_of(&self, name: &[u8]) -> usize
+    pub(crate) fn number_of(&self, name: &[u8]) -> usize
         requires { ⌜ Different (bytesOf (vec-items (now self .list))) ⌝ }
         ensures value { λ r. ⌜ r ≡ position (bytesOf (vec-items (now (self .entry) .list))) (now (name .entry)) ⌝ }
         ensures within { λ r. ⌜ r ≤ vec-len (now (self .entry) .list) ⌝ }
@@ -91,7 +91,7 @@ impl<'t> Names<'t> {
     }
 
     // One more name at the end.
-    pub fn push(&mut self, name: &'t [u8]) -> Result<(), Refused<&'t [u8]>>
+    pub(crate) fn push(&mut self, name: &'t [u8]) -> Result<(), Refused<&'t [u8]>>
         requires { ⌜ vec-len (now self .list) < 1024 ⌝ }
         ensures { λ r. ⌜ made r (λ _. vec-items (now (self .exit) .list) ≡ vec-items (now (self .entry) .list) ++ name .entry ∷ []) ⌝ }
     {

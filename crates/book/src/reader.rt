@@ -66,7 +66,7 @@ fn admit<'t>(names: &mut Names<'t>, opens: usize, count: usize, name: &'t [u8], 
 
 // An open element, whose end is still 0, with its number and the bytes of its name.
 #[derive(Drop)]
-pub struct Open<'t> {
+struct Open<'t> {
     number: usize,
     element: Element,
     name: &'t [u8],
@@ -74,7 +74,7 @@ pub struct Open<'t> {
 
 // The tree so far, with the open elements, innermost last.
 #[derive(Drop)]
-pub struct Reader<'t> {
+struct Reader<'t> {
     elements: Vec<Element>,
     names: Names<'t>,
     opens: Vec<Open<'t>>,

@@ -134,13 +134,6 @@ impl<'t> Lexer<'t> {
         Lexer { text, at: 0 }
     }
 
-    // Where the next item begins.
-    pub fn place(&self) -> usize
-        ensures { λ r. ⌜ r ≡ now (self .entry) .at ⌝ }
-    {
-        self.at
-    }
-
     // The next item, and the lexer moves behind it; or nothing at the end of the text. A refusal moves nothing.
     pub fn next(&mut self) -> Result<Option<Token<'t>>, Fault>
         ensures text { λ _. ⌜ now (now (self .exit) .text) ≡ now (now (self .entry) .text) ⌝ }
