@@ -1,0 +1,3 @@
+// Worked examples and limits, run through the public calls.
+#[cfg(test)]
+mod books;
