@@ -19,7 +19,7 @@ use Rattle.tree.specs.declared.element.Element.{Element}
 use Rattle.lexer.specs.Item.{Item.start, Item.end, Item.empty, spelling}
 use Rattle.book.specs.Document.{Content, Content.none, Content.byte, Content.bare, Content.full, spell, Lawful, Blank, Single, Node, nodesAt, Document, position, intern, numbered, named, indexed, Shallow, Within}
 use Rattle.book.specs.Reading.{State, initial, enter, ended, opened, leaf, finished, readBook}
-use Rattle.book.proofs.Entering.{entered-ok}
+use Rattle.book.proofs.Entering.{Allowed, allowed-ok, enter-by}
 use Rattle.book.proofs.Machine.{runs, runs-byte, runs-tag}
 use Rattle.book.proofs.Naming.{position-below}
 use Rattle.book.proofs.Numbering.{named-grows, named-append, numbered-append, numbered-length}
@@ -80,7 +80,8 @@ enter-ok s p n f l r =
     let a : length (s .opens) < 64 = omega (arith, r .shallow .0) in
     let b : length (s .elements) < 65535 = omega (arith, r .few) in
     let c : position (s .names) (n .name) < 1024 = omega (arith, position-below (s .names) (n .name), r .names) in
-    entered-ok (length (s .opens)) (length (s .elements)) (position (s .names) (n .name)) p (s .names) (n .name) refl f a b c
+    enter-by (length (s .opens)) (length (s .elements)) p (s .names) (n .name) (Ok tt)
+    (allowed-ok (length (s .opens)) (length (s .elements)) (position (s .names) (n .name)) p (record { free = f; level = omega arith; few = b; names = c }))
 
 same-self : (n : List ℕ) → sameBytes n n ≡ true
 same-self n = sameBytes-decides n n .1 refl

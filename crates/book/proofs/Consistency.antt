@@ -5,6 +5,7 @@ use mathlib.Core.Bool.{Bool, true, false, cond}
 use mathlib.Core.List.{List, [], _∷_, _++_}
 use mathlib.Core.Logic.{⊎-elim}
 use native.Mathlib.Omega.{arith}
+use lib.Dec.{eqb}
 use lib.ListN.{length, length-append, length-set}
 use Rattle.std.specs.shelf.Lists.{All}
 use Rattle.std.specs.shelf.Text.{sameBytes}
@@ -17,7 +18,7 @@ use Rattle.markup.specs.Faults.{andThen}
 use Rattle.markup.proofs.Granted.{Granted, grant, refuse, either, chain}
 use Rattle.tree.specs.declared.element.Element.{Element}
 use Rattle.lexer.specs.Item.{Item, Item.start, Item.end, Item.empty, Item.text}
-use Rattle.book.specs.Reading.{OpenElement, State, Consistent, initial, ended, entered, opened, leaf, close, between, step}
+use Rattle.book.specs.Reading.{OpenElement, State, Consistent, initial, ended, entered, opened, leaf, close, blanksOnly, step}
 use Rattle.book.proofs.Naming.{intern-different}
 
 pub initial-consistent : Consistent initial
@@ -55,7 +56,8 @@ granted-step : (s : State) (p : ℕ) (i : Item) → Consistent s → Granted Con
 granted-step s p (start name) c = chain _ (entered s p name) (λ e. Ok (opened s name e)) (any (entered s p name)) (λ e _. grant _ (opened-consistent s c p name e))
 granted-step s p (empty name) c = chain _ (entered s p name) (λ e. Ok (leaf s p name e)) (any (entered s p name)) (λ e _. grant _ (leaf-consistent s c p name e))
 granted-step s p (end name) c = close-consistent s (s .opens) p name c (c .among)
-granted-step s p (text bs) c = either _ _ _ (λ _. refuse _) (λ _. grant _ c)
+granted-step s p (text bs) c =
+    either (eqb (length (s .opens)) 0) _ _ (λ _. chain _ (blanksOnly p bs) (λ _. Ok s) (any (blanksOnly p bs)) (λ _ _. grant _ c)) (λ _. grant _ c)
 
 pub step-consistent : (s t : State) (p : ℕ) (i : Item) → Consistent s → step s p i ≡ Ok t → Consistent t
 step-consistent s t p i c e = subst (Granted Consistent) e (granted-step s p i c) .granted

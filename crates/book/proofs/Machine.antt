@@ -1,7 +1,7 @@
 -- Reading at the front of a text, tag by tag and byte by byte, with no bound on the items.
 use Prim.Native.Nat.{ℕ, zero, suc, _+_, _-_, _≤_, _<_}
 use mathlib.Core.Path.{_≡_, refl, sym, ap, subst, _∙_}
-use mathlib.Core.Bool.{Bool, true, false, not, cond, _&&_}
+use mathlib.Core.Bool.{Bool, true, false, not, cond}
 use mathlib.Core.List.{List, [], _∷_, _++_}
 use mathlib.Core.Logic.{_⊎_, inl, inr, ⊎-elim}
 use native.Mathlib.Omega.{arith}
@@ -12,7 +12,7 @@ use Rattle.std.specs.shelf.Lists.{leading}
 use Rattle.std.specs.declared.result.Result.{Result}
 use Rattle.std.specs.declared.result.Result.the-variants.{Ok, Err}
 use Rattle.std.proofs.shelf.Sums.{leading-le-length}
-use Rattle.std.proofs.shelf.Tests.{cases-bool, cond-true, cond-false, and-left, and-right, and-from, eq-eqb, ne-eqb, eqb-true, eqb-false, not-from-false}
+use Rattle.std.proofs.shelf.Tests.{cases-bool, cond-true, cond-false, cond-both, eq-eqb, ne-eqb, eqb-true, eqb-false}
 use Rattle.markup.specs.declared.fault.Fault.{Fault}
 use Rattle.markup.specs.declared.fault.Refusal.the-variants.{Stray}
 use Rattle.markup.specs.Faults.{fault, andThen}
@@ -22,7 +22,7 @@ use Rattle.lexer.specs.Item.{Item, Item.start, Item.end, Item.empty, Item.text,
 use Rattle.lexer.specs.Lex.{itemAt}
 use Rattle.lexer.proofs.Fronts.{item-front, item-some}
 use Rattle.lexer.proofs.Tags.{tag-at, tagged}
-use Rattle.book.specs.Reading.{State, between, step, run}
+use Rattle.book.specs.Reading.{State, blanksOnly, between, step, run}
 
 -- a bound that is large enough does not matter
 run-more : (k m : ℕ) (s : State) (p : ℕ) (bs : List ℕ) → length bs ≤ k → length bs ≤ m → run k s p bs ≡ run m s p bs
@@ -54,7 +54,7 @@ runs-fault s p b bs f e =
 
 -- an empty run alters nothing
 between-empty : (s : State) (p : ℕ) → between s p [] ≡ Ok s
-between-empty s p = cond-false _ _ _ (and-right _ _ refl)
+between-empty s p = cond-both (eqb (length (s .opens)) 0) (Ok s) (Ok s) (λ r. r ≡ Ok s) (λ _. refl) (λ _. refl)
 
 module _ (s : State) (p : ℕ) where
   Front : List ℕ → ℕ → Result State Fault
@@ -88,14 +88,17 @@ eqb-suc a b =
     ⊎-elim (λ (e : eqb a b ≡ true). eq-eqb _ _ (ap suc (eqb-true a b e)) ∙ sym e)
     (λ (e : eqb a b ≡ false). let ne = eqb-false a b e in ne-eqb (suc a) (suc b) (λ q. ne (omega arith)) ∙ sym e) (cases-bool (eqb a b))
 
-between-byte : (s : State) (p b : ℕ) (xs : List ℕ) → Calm s b → between s p (b ∷ xs) ≡ between s (p + 1) xs
-between-byte s p b xs (inl h) = cond-false _ _ _ (and-left _ _ h) ∙ sym (cond-false _ _ _ (and-left _ _ h))
-between-byte s p b xs (inr h) =
+blanks-byte : (p b : ℕ) (xs : List ℕ) → blankByte b ≡ true → blanksOnly p (b ∷ xs) ≡ blanksOnly (p + 1) xs
+blanks-byte p b xs h =
     let m : ℕ = leading blankByte xs in
     let z : leading blankByte (b ∷ xs) ≡ suc m = ap (λ x. cond x (1 + m) 0) h ∙ omega arith in
     let q : p + suc m ≡ p + 1 + m = omega arith in
-    ap (λ k. cond (eqb (length (s .opens)) 0 && not (eqb k (suc (length xs)))) (Err (fault Stray (p + k))) (Ok s)) z
-    ∙ (λ j. cond (eqb (length (s .opens)) 0 && not (eqb-suc m (length xs) j)) (Err (fault Stray (q j))) (Ok s))
+    ap (λ k. cond (eqb k (suc (length xs))) (Ok tt) (Err (fault Stray (p + k)))) z
+    ∙ (λ j. cond (eqb-suc m (length xs) j) (Ok tt) (Err (fault Stray (q j))))
+
+between-byte : (s : State) (p b : ℕ) (xs : List ℕ) → Calm s b → between s p (b ∷ xs) ≡ between s (p + 1) xs
+between-byte s p b xs (inl h) = cond-false _ _ _ h ∙ sym (cond-false _ _ _ h)
+between-byte s p b xs (inr h) = ap (λ r. cond (eqb (length (s .opens)) 0) (andThen r (λ _. Ok s)) (Ok s)) (blanks-byte p b xs h)
 
 pub runs-byte : (s : State) (p b : ℕ) (bs : List ℕ) → textByte b ≡ true → Calm s b → runs s p (b ∷ bs) ≡ runs s (p + 1) bs
 unfolding Front
@@ -115,8 +118,9 @@ runs-stray s p b bs t h k =
     let y : leading blankByte (b ∷ take m bs) ≡ 0 = ap (λ x. cond x (1 + leading blankByte (take m bs)) 0) k in
     let ne : eqb (leading blankByte (b ∷ take m bs)) (suc (length (take m bs))) ≡ false = ne-eqb _ _ (λ e. omega arith) in
     let q : p + leading blankByte (b ∷ take m bs) ≡ p = omega arith in
+    let bad : blanksOnly p (b ∷ take m bs) ≡ Err (fault Stray (p + leading blankByte (b ∷ take m bs))) = cond-false _ _ _ ne in
     text-run s p (b ∷ bs) ∙ ap (Front s p (b ∷ bs)) z
-    ∙ ap (λ r. andThen r (λ t. runs t (p + suc m) (drop m bs))) (cond-true _ _ _ (and-from _ _ h (not-from-false _ ne)))
+    ∙ ap (λ r. andThen r (λ t. runs t (p + suc m) (drop m bs))) (cond-true (eqb (length (s .opens)) 0) _ (Ok s) h ∙ ap (λ (r : Result (Unit {0}) Fault). andThen r (λ _. Ok s)) bad)
     ∙ ap (λ k. Err (fault Stray k)) q
 
 pub runs-tag : (s : State) (p : ℕ) (i : Item) (rest : List ℕ) → Tag i → runs s p (spelling i ++ rest) ≡ andThen (step s p i) (λ t. runs t (p + length (spelling i)) rest)

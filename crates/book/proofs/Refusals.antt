@@ -22,9 +22,11 @@ use Rattle.lexer.specs.Item.{Item, Item.start, Item.end, Item.empty, Item.text,
 use Rattle.lexer.specs.BadTag.{BadTag}
 use Rattle.lexer.proofs.Judging.{bad-tag, bad-refused}
 use Rattle.book.specs.Document.{position, intern}
-use Rattle.book.specs.Reading.{OpenElement, State, initial, enter, ended, opened, leaf, close, closed, finished, readBook}
+use Rattle.book.specs.Reading.{OpenElement, State, initial, allowed, enter, ended, opened, leaf, close, closed, finished, readBook}
 use Rattle.book.specs.Refusing.{History, History.begin, History.byte, History.bare, History.opening, History.closing, written, opensOf, countOf, namesOf, Innermost, Second, Deep, Many, Fit, Allowed, Unfit, Unfit.second, Unfit.deep, Unfit.many, Wrong, Wrong.outside, Wrong.bytes, Wrong.astray, Wrong.unfit, Wrong.missing, Wrong.unclosed, Stops, Refuses}
 use Rattle.book.specs.Promises.{Refused-exactly}
+use Rattle.book.proofs.Entering.{enter-by}
+use Rattle.book.proofs.Runs.{book-is, too-long}
 use Rattle.book.proofs.Machine.{runs, Calm, runs-byte, runs-stray, runs-fault, runs-tag, Front-tag, front}
 
 err-same : {X : Type 0} (f g : Fault) → _≡_ {A = Result X Fault} (Err f) (Err g) → f ≡ g
@@ -86,22 +88,26 @@ module _ (h : History) (s : State) (m : Matches h s) (name : List ℕ) (l : Lawf
       let b : eqb (length (s .elements)) 0 ≡ false = ne-eqb _ _ (λ q. omega (arith, m .count, x .1)) in
       true≢false (sym (and-from _ _ a (not-from-false _ b)) ∙ e)
 
+  by : {r : Result (Unit {0}) Fault} → allowed (length (s .opens)) (length (s .elements)) (position (s .names) name) (length (written h)) ≡ r
+      → entering s (length (written h)) name ≡ andThen r (λ _. Ok (begun s (length (written h)) name))
+  by {r} e = enter-by (length (s .opens)) (length (s .elements)) (length (written h)) (s .names) name r e
+
   entering-cases : Entering
   unfolding Entering
   entering-cases =
-      ⊎-elim (λ (a : (eqb (length (s .opens)) 0 && not (eqb (length (s .elements)) 0)) ≡ true). inr (_, cond-true _ _ _ a, second (second-test a) refl))
+      ⊎-elim (λ (a : (eqb (length (s .opens)) 0 && not (eqb (length (s .elements)) 0)) ≡ true). inr (_, by (cond-true _ _ _ a), second (second-test a) refl))
       (λ (a : (eqb (length (s .opens)) 0 && not (eqb (length (s .elements)) 0)) ≡ false).
         ⊎-elim (λ (b : leb 64 (length (s .opens)) ≡ true).
             let x = leb-true 64 (length (s .opens)) b in
             let y : Deep h = omega (arith, depth h s m) in
-            inr (_, cond-false _ _ _ a ∙ cond-true _ _ _ b, deep (first-test a) y refl))
+            inr (_, by (cond-false _ _ _ a ∙ cond-true _ _ _ b), deep (first-test a) y refl))
         (λ (b : leb 64 (length (s .opens)) ≡ false).
             let x = leb-false 64 (length (s .opens)) b in
             let y : Deep h → ⊥ = λ w. omega (arith, depth h s m) in
             ⊎-elim (λ (c : (leb 65535 (length (s .elements)) || leb 1024 (position (s .names) name)) ≡ true).
-              inr (_, cond-false _ _ _ a ∙ cond-false _ _ _ b ∙ cond-true _ _ _ c, many (first-test a) y (many-test c) refl))
+              inr (_, by (cond-false _ _ _ a ∙ cond-false _ _ _ b ∙ cond-true _ _ _ c), many (first-test a) y (many-test c) refl))
             (λ (c : (leb 65535 (length (s .elements)) || leb 1024 (position (s .names) name)) ≡ false).
-              inl (cond-false _ _ _ a ∙ cond-false _ _ _ b ∙ cond-false _ _ _ c, record { lawful = l; first = first-test a; shallow = y; few = few-test c }))
+              inl (by (cond-false _ _ _ a ∙ cond-false _ _ _ b ∙ cond-false _ _ _ c), record { lawful = l; first = first-test a; shallow = y; few = few-test c }))
             (cases-bool (leb 65535 (length (s .elements)) || leb 1024 (position (s .names) name))))
         (cases-bool (leb 64 (length (s .opens)))))
       (cases-bool (eqb (length (s .opens)) 0 && not (eqb (length (s .elements)) 0)))
@@ -259,10 +265,10 @@ stops bs f e =
     ⊎-elim
     (λ (z : leb (length bs) 16777216 ≡ true).
       let m : Matches begin initial = record { count = refl; names = refl; opens = refl } in
-      inr (leb-true _ _ z, goes-on bs f (length bs) begin initial bs (omega arith) tt m refl (sym (cond-true _ _ _ z) ∙ e)))
+      inr (leb-true _ _ z, goes-on bs f (length bs) begin initial bs (omega arith) tt m refl (sym (book-is bs (leb-true _ _ z)) ∙ e)))
     (λ (z : leb (length bs) 16777216 ≡ false).
       let lt = leb-false (length bs) 16777216 z in
-      inl (omega arith, sym (err-same _ f (sym (cond-false _ _ _ z) ∙ e))))
+      inl (omega arith, sym (err-same _ f (sym (too-long bs _ (cond-false _ _ _ z)) ∙ e))))
     (cases-bool (leb (length bs) 16777216))
 
 -- The other way round.
@@ -387,11 +393,11 @@ module _ (h : History) (s : State) (m : Matches h s) (n : ℕ) where
 
 refused : (bs : List ℕ) (f : Fault) → Refuses bs f → readBook bs ≡ Err f
 unfolding Ends
-refused bs f (inl h) = cond-false _ _ _ (lt-leb _ _ (h .0)) ∙ ap Err (sym (h .1))
+refused bs f (inl h) = too-long bs _ (cond-false _ _ _ (lt-leb _ _ (h .0))) ∙ ap Err (sym (h .1))
 refused bs f (inr h) =
     let x = h .1 in
     let r = reached (x .read) (x .allowed) in
-    cond-true _ _ _ (le-leb _ _ (h .0))
+    book-is bs (h .0)
     ∙ ap (λ y. andThen y (finished (length bs))) (ap (runs initial 0) (x .cut) ∙ r .comes (x .rest))
     ∙ wrong-ends (x .read) (r .state) (r .matches) (length bs) (x .rest) f (ap (λ l. length l) (x .cut)) (x .wrong)
 

@@ -17,7 +17,7 @@ use Rattle.lexer.specs.Item.{Item, spelling}
 use Rattle.lexer.specs.Lex.{itemAt, lex}
 use Rattle.lexer.proofs.Fronts.{Item-front}
 use Rattle.lexer.proofs.Meaning.{item-of, fault-of, lexed-front}
-use Rattle.book.specs.Reading.{State, initial, step, run, finished, readBook}
+use Rattle.book.specs.Reading.{State, initial, step, run, finished, shortEnough, readBook}
 use Rattle.book.specs.Views.{Fails}
 use Rattle.book.proofs.Steps.{fails-then}
 
@@ -87,7 +87,11 @@ module _ (bs : List ℕ) (p : ℕ) (s : State) (h : Sofar bs p s) where
 
 -- the whole reading of a text that is not too long
 pub book-is : (bs : List ℕ) → length bs ≤ 16777216 → readBook bs ≡ andThen (run (length bs) initial 0 bs) (finished (length bs))
-book-is bs h = cond-true _ _ _ (le-leb _ _ h)
+book-is bs h = ap (λ r. andThen r (λ _. andThen (run (length bs) initial 0 bs) (finished (length bs)))) (cond-true _ _ _ (le-leb _ _ h))
 
 pub book-fails : (bs : List ℕ) (x : Error) → length bs ≤ 16777216 → Fails (run (length bs) initial 0 bs) x → Fails (readBook bs) x
 book-fails bs x h f = subst (λ r. Fails r x) (sym (book-is bs h)) (fails-then (run (length bs) initial 0 bs) (finished (length bs)) x f)
+
+-- the reading of one that is
+pub too-long : (bs : List ℕ) (f : Fault) → shortEnough (length bs) ≡ Err f → readBook bs ≡ Err f
+too-long bs f e = ap (λ r. andThen r (λ _. andThen (run (length bs) initial 0 bs) (finished (length bs)))) e

@@ -18,14 +18,16 @@ use Rattle.std.proofs.shelf.Tests.{cases-bool, cond-true, cond-false, and-cases
 use Rattle.markup.specs.declared.fault.Fault.{Fault}
 use Rattle.markup.specs.Faults.{andThen}
 use Rattle.markup.specs.Name.{LawfulName}
-use Rattle.markup.proofs.Granted.{Granted, grant, refuse, either}
+use Rattle.markup.proofs.Granted.{Granted, grant, chain}
 use Rattle.tree.specs.declared.element.Element.{Element}
 use Rattle.tree.specs.Tree.{Tree}
 use Rattle.lexer.specs.Bytes.{blankByte, textByte}
 use Rattle.lexer.specs.Item.{Item, Item.start, Item.end, Item.empty, Item.text, Tag, spelling}
 use Rattle.book.specs.Document.{Content, Content.none, Content.byte, Content.bare, Content.full, spell, Lawful, Blank, Single, Node, nodesAt, Document, position, intern, numbered, named, indexed, Shallow, Within}
-use Rattle.book.specs.Reading.{OpenElement, State, initial, enter, ended, opened, leaf, close, closed, step, treeOfState, finished, readBook}
+use Rattle.book.specs.Reading.{OpenElement, State, initial, allowed, enter, ended, opened, leaf, close, closed, step, treeOfState, finished, readBook}
+use Rattle.book.proofs.Entering.{Allowed, allowed-granted}
 use Rattle.book.proofs.Machine.{runs, Calm, runs-byte, runs-stray, runs-fault, runs-tag, Front-tag, front}
+use Rattle.book.proofs.Runs.{book-is, too-long}
 use Rattle.book.proofs.Naming.{interned}
 use Rattle.book.proofs.Numbering.{numbered-length}
 
@@ -184,23 +186,15 @@ abbrev begun : State → ℕ → List ℕ → Element
 begun s p name = record { start = p; «end» = 0; level = length (s .opens); name = position (s .names) name }
 
 record Entered (s : State) (p : ℕ) (name : List ℕ) (e : Element) : Type 0 where
-  free : (eqb (length (s .opens)) 0 && not (eqb (length (s .elements)) 0)) ≡ false
-  level : length (s .opens) ≤ 63
-  few : length (s .elements) < 65535
-  names : position (s .names) name < 1024
+  allowed-here : Allowed (length (s .opens)) (length (s .elements)) (position (s .names) name)
   same : e ≡ begun s p name
 
 entered-is : (s : State) (p : ℕ) (name : List ℕ) → Granted (Entered s p name) (enter (length (s .opens)) (length (s .elements)) (s .names) p name)
 entered-is s p name =
-    either (eqb (length (s .opens)) 0 && not (eqb (length (s .elements)) 0)) _ _ (λ _. refuse _)
-    (λ a. either (leb 64 (length (s .opens))) _ _ (λ _. refuse _)
-      (λ b. either (leb 65535 (length (s .elements)) || leb 1024 (position (s .names) name)) _ _ (λ _. refuse _)
-        (λ c.
-          let d = or-parts (leb 65535 (length (s .elements))) (leb 1024 (position (s .names) name)) c in
-          let x = leb-false _ _ b in
-          let y = leb-false 65535 (length (s .elements)) (d .0) in
-          let z = leb-false 1024 (position (s .names) name) (d .1) in
-          grant _ (record { free = a; level = omega arith; few = omega arith; names = omega arith; same = refl }))))
+    let opens : ℕ = length (s .opens) in
+    let count : ℕ = length (s .elements) in
+    let number : ℕ = position (s .names) name in
+    chain _ (allowed opens count number p) (λ _. Ok (begun s p name)) (allowed-granted opens count number p) (λ _ a. grant _ (record { allowed-here = a; same = refl }))
 
 entered-of : (s : State) (p : ℕ) (name : List ℕ) (e : Element) → enter (length (s .opens)) (length (s .elements)) (s .names) p name ≡ Ok e → Entered s p name e
 entered-of s p name e h = subst (Granted (Entered s p name)) h (entered-is s p name) .granted
@@ -219,16 +213,16 @@ module _ (s : State) (p : ℕ) (name : List ℕ) (h : Sane s) (e : Element) (n :
       let lt : length (s .elements) < length (s .elements ++ e ∷ []) = omega arith in
       record
         { below = (lt, below-more (length (s .elements)) (length (s .elements ++ e ∷ [])) (s .opens) (omega arith) (h .below))
-        ; few = omega (arith, n .few)
-        ; names = few-names (s .names) name (h .names) (n .names) }
+        ; few = omega (arith, n .allowed-here .few)
+        ; names = few-names (s .names) name (h .names) (n .allowed-here .names) }
 
   sane-leaf : Sane (leaf s p name e)
   sane-leaf =
       let l = length-append (s .elements) (ended e (p + 1 + length name) ∷ []) in
       record
         { below = below-more (length (s .elements)) _ (s .opens) (omega arith) (h .below)
-        ; few = omega (arith, n .few)
-        ; names = few-names (s .names) name (h .names) (n .names) }
+        ; few = omega (arith, n .allowed-here .few)
+        ; names = few-names (s .names) name (h .names) (n .allowed-here .names) }
 
 -- only the first element stands outside
 outer-element : (n : ℕ) (os : List OpenElement) (f : Content → Content) (t : Tail os) → ((c : Content) → Blank c → Single (f c)) → Below n os
@@ -250,7 +244,7 @@ told-bare s p name rest t law sane en h =
     let n = over-nodes (bare name) p (spelling (empty name)) (node ∷ []) os (h .tail) pre in
     let f = over-fill (bare name) p (spelling (empty name)) (node ∷ []) es os (h .tail) pre in
     let len = length-append es (y ∷ []) in
-    let out = outer-element (length es) os (bare name) (h .tail) (λ c b. b) (sane .below) (en .free) (h .blank (omega arith)) in
+    let out = outer-element (length es) os (bare name) (h .tail) (λ c b. b) (sane .below) (en .allowed-here .free) (h .blank (omega arith)) in
     record
       { tail = over os (bare name) (h .tail)
       ; lawful = lawful-over os (bare name) (h .tail) (λ c l. (law, l)) (h .lawful)
@@ -261,7 +255,7 @@ told-bare s p name rest t law sane en h =
           ∙ append-assoc (fill es os q (h .tail)) (y ∷ []) (numbered (intern (s .names) name) (tailNodes os q (h .tail)))
           ∙ (λ i. sym f i ++ numbered (s .names) (sym n i))
       ; names = h .names ∙ ap (named (s .names)) (sym n)
-      ; shallow = subst Shallow (sym n) (en .level, h .shallow)
+      ; shallow = subst Shallow (sym n) (en .allowed-here .level, h .shallow)
       ; blank = out .0
       ; single = out .1
       ; few = h .few
@@ -304,7 +298,7 @@ told-full s p name rest t law sane en h =
     let f : fill es os p (over os (full name inner) more) ≡ fill es os q more =
         over-fill (full name inner) p spelt ns es os more pre ∙ ap (λ k. fill es os k more) z in
     let len = length-append es (e ∷ []) in
-    let out = outer-element (length es) os (full name inner) more (λ c b. b) (sane .below) (en .free) (h .blank (omega arith)) in
+    let out = outer-element (length es) os (full name inner) more (λ c b. b) (sane .below) (en .allowed-here .free) (h .blank (omega arith)) in
     record
       { tail = over os (full name inner) more
       ; lawful = lawful-over os (full name inner) more (λ c l. (law, h .lawful .0, l)) (h .lawful .1)
@@ -319,7 +313,7 @@ told-full s p name rest t law sane en h =
           ∙ append-assoc (fill es os q more) (y ∷ []) (numbered (intern (s .names) name) (is ++ tailNodes os q more))
           ∙ (λ i. sym f i ++ numbered (s .names) (sym n i))
       ; names = h .names ∙ ap (named (s .names)) (sym n)
-      ; shallow = subst Shallow (sym n) (en .level, h .shallow)
+      ; shallow = subst Shallow (sym n) (en .allowed-here .level, h .shallow)
       ; blank = out .0
       ; single = out .1
       ; few = h .few
@@ -451,7 +445,7 @@ pub sound : (bs : List ℕ) (b : Tree) → readBook bs ≡ Ok b → (ns : List N
 unfolding Contains
 sound bs b e =
     ⊎-elim (λ (z : leb (length bs) 16777216 ≡ true).
-      let x = then-ok (runs initial 0 bs) (finished (length bs)) b (sym (cond-true _ _ _ z) ∙ e) in
+      let x = then-ok (runs initial 0 bs) (finished (length bs)) b (sym (book-is bs (leb-true _ _ z)) ∙ e) in
       let t : State = x .0 in
       let f = finished-ok (length bs) t b (x .2) in
       let s : Sane initial = record { below = tt; few = omega arith; names = omega arith } in
@@ -464,5 +458,5 @@ sound bs b e =
        record { row = h .tail; lawful = h .lawful; single = h .single refl; spelled = h .text; elements = refl },
        record { short = leb-true _ _ z; shallow = h .shallow; few = few; names = names },
        sym (f .2) ∙ (λ i. record { elements = h .elements i; names = h .names i })))
-    (λ (z : leb (length bs) 16777216 ≡ false). absurd (ok-or-err b _ (sym (cond-false _ _ _ z) ∙ e)))
+    (λ (z : leb (length bs) 16777216 ≡ false). absurd (ok-or-err b _ (sym (too-long bs _ (cond-false _ _ _ z)) ∙ e)))
     (cases-bool (leb (length bs) 16777216))

@@ -1,35 +1,31 @@
 -- What the reader's methods make of its state.
 use Prim.Native.Nat.{ℕ, _+_, _-_, _≤_, _<_}
 use mathlib.Core.Path.{_≡_, refl, sym, ap, subst, _∙_}
-use mathlib.Core.Bool.{Bool, true, false, not}
+use mathlib.Core.Bool.{true, false}
 use mathlib.Core.List.{List, [], _∷_, _++_, map, reverse}
 use native.Mathlib.Omega.{arith}
 use denote.Ref.{RefT}
 use lib.Dec.{eqb}
 use lib.ListN.{length, getD, set, take}
-use Rattle.std.specs.Lexical.{Matches}
-use Rattle.std.specs.Orderings.{Decides}
-use Rattle.std.specs.shelf.Lists.{All, leading}
+use Rattle.std.specs.shelf.Lists.{All}
 use Rattle.std.specs.shelf.Text.{sameBytes}
 use Rattle.std.specs.Of.Vec.{vec-items, vec-len}
 use Rattle.std.specs.declared.result.Result.{Result}
 use Rattle.std.specs.declared.result.Result.the-variants.{Ok, Err}
 use Rattle.std.proofs.shelf.Lists.{length-map, length-reverse, reverse-append, take-all, take-more}
-use Rattle.std.proofs.shelf.Tests.{cond-true, cond-false, and-left, and-from, not-from-false, ne-eqb}
+use Rattle.std.proofs.shelf.Tests.{cond-true, cond-false}
 use Rattle.markup.specs.declared.fault.Fault.{Fault}
 use Rattle.markup.specs.declared.fault.Error.{Error}
 use Rattle.markup.specs.declared.fault.Error.the-variants.{Refused, Memory}
-use Rattle.markup.specs.declared.fault.Refusal.the-variants.{Stray, WrongEndTag, Unclosed}
+use Rattle.markup.specs.declared.fault.Refusal.the-variants.{WrongEndTag, Unclosed}
 use Rattle.markup.specs.Faults.{fault, andThen}
 use Rattle.tree.specs.declared.element.Element.{Element}
-use Rattle.lexer.specs.Bytes.{blankByte}
 use Rattle.book.specs.declared.reader.Open.{Open}
 use Rattle.book.specs.declared.reader.Reader.{Reader}
 use Rattle.book.specs.Document.{intern}
-use Rattle.book.specs.Reading.{OpenElement, State, Consistent, enter, entered, opened, leaf, ended, between, close, closed, finished, treeOfState}
+use Rattle.book.specs.Reading.{OpenElement, State, Consistent, enter, entered, opened, leaf, ended, blanksOnly, between, close, closed, finished, treeOfState}
 use Rattle.book.specs.Parts.{bytesOf}
 use Rattle.book.specs.Views.{openOf, stateOf, Fails}
-use Rattle.book.proofs.Search.{compared}
 
 -- a refusal ends what would follow it
 pub fails-then : {X Z : Type 0} (d : Result X Fault) (k : X → Result Z Fault) (e : Error) → Fails d e → Fails (andThen d k) e
@@ -63,12 +59,11 @@ module _ (r : Reader) where
 
   -- a text run
   pub inside : (p : ℕ) (bs : List ℕ) → eqb (vec-len (r .opens)) 0 ≡ false → between (stateOf r) p bs ≡ Ok (stateOf r)
-  inside p bs h = cond-false _ _ _ (and-left _ _ (sym (ap (λ n. eqb n 0) opens-count) ∙ h))
+  inside p bs h = cond-false _ _ _ (sym (ap (λ n. eqb n 0) opens-count) ∙ h)
 
-  pub outside : (p n : ℕ) (bs : List ℕ) → eqb (vec-len (r .opens)) 0 ≡ true → n ≡ leading blankByte bs → (n ≡ length bs → ⊥) → between (stateOf r) p bs ≡ Err (fault Stray (p + n))
-  outside p n bs h e ne =
-      cond-true _ _ _ (and-from _ _ (sym (ap (λ n. eqb n 0) opens-count) ∙ h) (not-from-false _ (ne-eqb _ _ (λ q. ne (e ∙ q)))))
-      ∙ ap (λ k. Err (fault Stray (p + k))) (sym e)
+  pub outside : (p : ℕ) (bs : List ℕ) (x : Result (Unit {0}) Fault) → eqb (vec-len (r .opens)) 0 ≡ true → x ≡ blanksOnly p bs
+      → between (stateOf r) p bs ≡ andThen x (λ _. Ok (stateOf r))
+  outside p bs x h e = cond-true _ _ _ (sym (ap (λ n. eqb n 0) opens-count) ∙ h) ∙ ap (λ y. andThen y (λ _. Ok (stateOf r))) (sym e)
 
   -- an end tag, where o is the innermost open element
   module _ (os : List Open) (o : Open) (last : vec-items (r .opens) ≡ os ++ o ∷ []) (p : ℕ) (name : List ℕ) where
@@ -97,11 +92,3 @@ module _ (r : Reader) where
       let lt : i < length xs = omega arith in
       let whole : xs ≡ take i xs ++ o ∷ [] = sym (take-all (i + 1) xs (omega arith)) ∙ take-more xs i o lt ∙ ap (λ x. take i xs ++ x ∷ []) (sym at) in
       cond-false _ _ _ (some h) ∙ ap (λ l. closed (stateOf r) (map openOf (reverse l))) (sym same ∙ whole) ∙ ap (closed (stateOf r)) (push-open (take i xs) o)
-
--- what `!=` on slices of bytes answers
-pub differ : (xs ys : List ℕ) (r : Bool) → ((b : Bool) × Matches (λ (x y : ℕ) (t : Bool). Decides t (x ≡ y)) xs ys b × (r ≡ not b)) → not r ≡ sameBytes xs ys
-differ xs ys r h = ap not (h .2) ∙ twice (h .0) ∙ compared xs ys (h .0) (h .1)
-  where
-    twice : (b : Bool) → not (not b) ≡ b
-    twice true = refl
-    twice false = refl

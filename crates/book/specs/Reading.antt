@@ -44,13 +44,18 @@ pub record Consistent (s : State) : Type 0 where
 abbrev pub initial : State
 initial = record { elements = []; names = []; opens = [] }
 
--- the element of a tag at p, with `opens` open elements, `count` elements and these names before it
-abbrev pub enter : ℕ → ℕ → List (List ℕ) → ℕ → List ℕ → Result Element Fault
-enter opens count names p name =
+-- whether a further element may begin at p, with `opens` open elements and `count` elements before it; its name has this number
+abbrev pub allowed : ℕ → ℕ → ℕ → ℕ → Result (Unit {0}) Fault
+allowed opens count number p =
     cond (eqb opens 0 && not (eqb count 0)) (Err (fault TopElement p))
     (cond (leb 64 opens) (Err (fault TooDeep p))
-    (cond (leb 65535 count || leb 1024 (position names name)) (Err (fault TooMany p))
-    (Ok (record { start = p; «end» = 0; level = opens; name = position names name }))))
+    (cond (leb 65535 count || leb 1024 number) (Err (fault TooMany p))
+    (Ok tt)))
+
+-- the element of a tag at p, where these names came before
+abbrev pub enter : ℕ → ℕ → List (List ℕ) → ℕ → List ℕ → Result Element Fault
+enter opens count names p name =
+    andThen (allowed opens count (position names name) p) (λ _. Ok (record { start = p; «end» = 0; level = opens; name = position names name }))
 
 -- the element with its end
 abbrev pub ended : Element → ℕ → Element
@@ -83,10 +88,13 @@ close s (o ∷ os) p name = cond (sameBytes (o .name) name)
   (Ok (record { elements = set (s .elements) (o .number) (ended (o .element) p); names = s .names; opens = os }))
   (Err (fault WrongEndTag p))
 
--- outside the top element only blanks stand
+-- a run at p holds only blanks
+abbrev pub blanksOnly : ℕ → List ℕ → Result (Unit {0}) Fault
+blanksOnly p bs = cond (eqb (leading blankByte bs) (length bs)) (Ok tt) (Err (fault Stray (p + leading blankByte bs)))
+
+-- after a text run: outside the top element only blanks stand
 abbrev pub between : State → ℕ → List ℕ → Result State Fault
-between s p bs = cond (eqb (length (s .opens)) 0 && not (eqb (leading blankByte bs) (length bs)))
-  (Err (fault Stray (p + leading blankByte bs))) (Ok s)
+between s p bs = cond (eqb (length (s .opens)) 0) (andThen (blanksOnly p bs) (λ _. Ok s)) (Ok s)
 
 -- what an item at p makes of the state
 abbrev pub step : State → ℕ → Item → Result State Fault
@@ -114,6 +122,10 @@ closed s (o ∷ os) = Err (fault Unclosed (o .element .start))
 abbrev pub finished : ℕ → State → Result Tree Fault
 finished n s = cond (eqb (length (s .elements)) 0) (Err (fault TopElement n)) (closed s (s .opens))
 
+-- a text of n bytes is not too long
+abbrev pub shortEnough : ℕ → Result (Unit {0}) Fault
+shortEnough n = cond (leb n 16777216) (Ok tt) (Err (fault BookTooLong 16777216))
+
 -- the tree of a book text, or the first refusal
 abbrev pub readBook : List ℕ → Result Tree Fault
-readBook bs = cond (leb (length bs) 16777216) (andThen (run (length bs) initial 0 bs) (finished (length bs))) (Err (fault BookTooLong 16777216))
+readBook bs = andThen (shortEnough (length bs)) (λ _. andThen (run (length bs) initial 0 bs) (finished (length bs)))

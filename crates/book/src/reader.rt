@@ -3,14 +3,13 @@ ghost use mathlib.Core.Path.{_≡_};
 ghost use Prim.Native.Nat.{ℕ, _+_, _≤_, _<_};
 ghost use lib.ListN.{length};
 ghost use Rattle.std.specs.Of.Vec.{vec-items, vec-len};
+ghost use Rattle.std.specs.Orderings.{Decides};
 ghost use Rattle.std.specs.Vec.{made};
-ghost use Rattle.std.specs.declared.result.Result.the-variants.{Err};
-ghost use Rattle.markup.specs.declared.fault.Error.the-variants.{Refused};
-ghost use Rattle.markup.specs.Faults.{fault};
+ghost use Rattle.markup.specs.Faults.{fault as refusedAt};
 ghost use Rattle.lexer.specs.Item.{Item, spelling};
 ghost use Rattle.lexer.specs.Token.{itemOf, wholeOf};
-ghost use Rattle.book.specs.Document.{position, intern};
-ghost use Rattle.book.specs.Reading.{Different, Consistent, enter, initial, step, treeOfState, finished, readBook};
+ghost use Rattle.book.specs.Document.{intern};
+ghost use Rattle.book.specs.Reading.{Different, Consistent, allowed, blanksOnly, shortEnough, enter, initial, step, treeOfState, finished, readBook};
 ghost use Rattle.book.specs.Parts.{bytesOf};
 ghost use Rattle.book.specs.Views.{stateOf, treeOf, Answers};
 ghost use Rattle.book.specs.Answer.{ReadsBook};
@@ -35,10 +34,59 @@ pub const MOST_OPEN: usize = 64;
 pub const MOST_ELEMENTS: usize = 65_535;
 pub const MOST_NAMES: usize = 1024;
 
-fn refuse<T>(refusal: Refusal, place: usize) -> Result<T, Error>
-    ensures { λ r. ⌜ r ≡ Err (Refused (fault refusal place)) ⌝ }
+fn fault(refusal: Refusal, place: usize) -> Fault
+    ensures { λ r. ⌜ r ≡ refusedAt refusal place ⌝ }
 {
-    Err(Error::Refused(Fault { refusal, place }))
+    Fault { refusal, place }
+}
+
+// Whether a text is not too long.
+fn check_length(text: &[u8]) -> Result<(), Fault>
+    ensures value { λ r. ⌜ r ≡ shortEnough (length (now (text .entry))) ⌝ }
+    ensures short { λ r. ⌜ made r (λ _. length (now (text .entry)) ≤ 16777216) ⌝ }
+{
+    if text.len() > MOST_BYTES { Err(fault(Refusal::BookTooLong, MOST_BYTES)) } else { Ok(()) }
+}
+
+// Whether a further element may begin at `place`, with `opens` open elements and `count` elements before it; its name has this number.
+fn check_element(opens: usize, count: usize, number: usize, place: usize) -> Result<(), Fault>
+    ensures value { λ r. ⌜ r ≡ allowed opens count number place ⌝ }
+    ensures within { λ r. ⌜ made r (λ _. (opens < 64) × (count < 65535) × (number < 1024)) ⌝ }
+{
+    if opens == 0 && count != 0 {
+        return Err(fault(Refusal::TopElement, place));
+    }
+    if opens >= MOST_OPEN {
+        return Err(fault(Refusal::TooDeep, place));
+    }
+    if count >= MOST_ELEMENTS || number >= MOST_NAMES {
+        return Err(fault(Refusal::TooMany, place));
+    }
+    Ok(())
+}
+
+// Whether a text run at `place` holds only blanks.
+fn check_blanks(run: &[u8], place: usize) -> Result<(), Fault>
+    requires { ⌜ place + length (now run) ≤ 16777216 ⌝ }
+    ensures { λ r. ⌜ r ≡ blanksOnly place (now (run .entry)) ⌝ }
+{
+    let blanks = scan::run::<Blanks>(run);
+    if blanks == run.len() { Ok(()) } else { Err(fault(Refusal::Stray, place + blanks)) }
+}
+
+// Where the element of an empty tag at `place` ends: at the `/` behind its name.
+fn slash_of(place: usize, name: &[u8]) -> u32
+    requires { ⌜ place + 1 + length (now name) ≤ 16777216 ⌝ }
+    ensures { λ r. ⌜ r ≡ place + 1 + length (now (name .entry)) ⌝ }
+{
+    (place + 1 + name.len()) as u32
+}
+
+// Whether an end tag of this name closes an element of that one.
+fn same_name(opened: &[u8], closed: &[u8]) -> bool
+    ensures { λ r. ⌜ Decides r (now (opened .entry) ≡ now (closed .entry)) ⌝ }
+{
+    opened == closed
 }
 
 // The element of a tag at `place`, with its name's number; `opens` elements are open, and `count` come before it.
@@ -48,16 +96,8 @@ fn admit<'t>(names: &mut Names<'t>, opens: usize, count: usize, name: &'t [u8], 
     ensures element { λ r. ⌜ Answers (enter opens count (bytesOf (vec-items (now (names .entry) .list))) place (now (name .entry))) r (λ e. e) ⌝ }
     ensures names { λ r. ⌜ made r (λ _. bytesOf (vec-items (now (names .exit) .list)) ≡ intern (bytesOf (vec-items (now (names .entry) .list))) (now (name .entry))) ⌝ }
 {
-    if opens == 0 && count != 0 {
-        return refuse(Refusal::TopElement, place);
-    }
-    if opens >= MOST_OPEN {
-        return refuse(Refusal::TooDeep, place);
-    }
     let number = names.number_of(name);
-    if count >= MOST_ELEMENTS || number >= MOST_NAMES {
-        return refuse(Refusal::TooMany, place);
-    }
+    check_element(opens, count, number, place)?;
     if number == names.list.len() {
         names.push(name)?;
     }
@@ -110,8 +150,7 @@ impl<'t> Reader<'t> {
         let opens = self.opens.len();
         let number = self.elements.len();
         let element = admit(&mut self.names, opens, number, name, place)?;
-        let end = (place + 1 + name.len()) as u32;
-        self.elements.push(Element { end, ..element })?;
+        self.elements.push(Element { end: slash_of(place, name), ..element })?;
         Ok(())
     }
 
@@ -122,10 +161,10 @@ impl<'t> Reader<'t> {
         ensures { λ r. ⌜ Answers (step (stateOf (now (self .entry))) place (Item.end (now (name .entry)))) r (λ _. stateOf (now (self .exit))) ⌝ }
     {
         let Some(open) = self.opens.pop() else {
-            return refuse(Refusal::WrongEndTag, place);
+            return Err(Error::Refused(fault(Refusal::WrongEndTag, place)));
         };
-        if open.name != name {
-            return refuse(Refusal::WrongEndTag, place);
+        if !same_name(open.name, name) {
+            return Err(Error::Refused(fault(Refusal::WrongEndTag, place)));
         }
         self.elements[open.number] = Element { end: place as u32, ..open.element };
         Ok(())
@@ -137,10 +176,7 @@ impl<'t> Reader<'t> {
         ensures { λ r. ⌜ Answers (step (stateOf (now (self .entry))) place (Item.text (now (run .entry)))) r (λ _. stateOf (now (self .entry))) ⌝ }
     {
         if self.opens.is_empty() {
-            let blanks = scan::run::<Blanks>(run);
-            if blanks != run.len() {
-                return refuse(Refusal::Stray, place + blanks);
-            }
+            check_blanks(run, place)?;
         }
         Ok(())
     }
@@ -164,10 +200,10 @@ impl<'t> Reader<'t> {
         ensures { λ r. ⌜ Answers (finished len (stateOf (now (self .entry)))) r (λ _. treeOfState (stateOf (now (self .entry)))) ⌝ }
     {
         if self.elements.is_empty() {
-            return refuse(Refusal::TopElement, len);
+            return Err(Error::Refused(fault(Refusal::TopElement, len)));
         }
         match self.opens.last() {
-            Some(open) => refuse(Refusal::Unclosed, open.element.start as usize),
+            Some(open) => Err(Error::Refused(fault(Refusal::Unclosed, open.element.start as usize))),
             None => Ok(()),
         }
     }
@@ -177,9 +213,7 @@ impl<'t> Reader<'t> {
 fn read_items<'t>(heap: Global, text: &'t [u8]) -> Result<Book<'t>, Error>
     ensures { λ r. ⌜ Answers (readBook (now (text .entry))) r treeOf ⌝ }
 {
-    if text.len() > MOST_BYTES {
-        return refuse(Refusal::BookTooLong, MOST_BYTES);
-    }
+    check_length(text)?;
     let mut lexer = Lexer::new(text);
     let mut reader = Reader::new(heap);
     while let Some(token) = lexer.next()? {

@@ -19,7 +19,7 @@ use Rattle.lexer.proofs.Meaning.{lexing-is-exact}
 use Rattle.book.specs.Reading.{finished, run, initial, step, Consistent}
 use Rattle.book.specs.Views.{stateOf, Fails}
 use Rattle.book.proofs.Consistency.{initial-consistent, step-consistent}
-use Rattle.book.proofs.Runs.{Sofar, begin, item-within, one-more, step-fails, lex-fails, done, book-is, book-fails}
+use Rattle.book.proofs.Runs.{Sofar, begin, item-within, one-more, step-fails, lex-fails, done, book-is, book-fails, too-long}
 use Rattle.book.proofs.reader.read_items.Needs as need
 use Rattle.book.proofs.reader.read_items.Needs.{After-next, In-Some}
 
@@ -48,6 +48,12 @@ pub loop-reader-holds : need.loop-reader-holds
 loop-reader-holds c =
     (c .new-lexer .ensures .0, begin _ _ _ (c .new-lexer .ensures .1) (c .new-reader .ensures), subst Consistent (sym (c .new-reader .ensures)) initial-consistent)
 
+pub returns-in-Break-check-length : need.returns-in-Break-check-length
+returns-in-Break-check-length c =
+    let p = err-from-errBy (c .from-residual .result) (c .from-residual .ensures .1) in
+    let f = c .in-Break-check-length .field-0 .0 in
+    rw (p .1, p .2) (too-long (c .args .text .now) f (sym (c .in-Break-check-length .ensures tt .value)))
+
 pub loop-reader-less : need.loop-reader-less
 loop-reader-less c =
     let t = token-turn (need.at·loop-reader-less c .In-Some) in
@@ -67,10 +73,10 @@ loop-reader-again c =
 
 pub returns-in-Break-token : need.returns-in-Break-token
 returns-in-Break-token c =
-    let p = err-from-errBy (c .from-residual .result) (c .from-residual .ensures .1) in
+    let p = err-from-errBy (c .from-residual-in-Break-token .result) (c .from-residual-in-Break-token .ensures .1) in
     let f = c .in-Break-token .field-0 .0 in
     let t = turn (need.at·returns-in-Break-token c .After-next) (Err f) (c .in-Break-token .was tt) in
-    rw (p .1, p .2) (book-fails (c .args .text .now) (Refused f) (c .if-text-gt-MOST-BYTES .left) (lex-fails _ _ _ (c .loop-reader .inv .1) f (sym (t .item))))
+    rw (p .1, p .2) (book-fails (c .args .text .now) (Refused f) (c .in-Continue-check-length .ensures tt .short) (lex-fails _ _ _ (c .loop-reader .inv .1) f (sym (t .item))))
 
 pub returns-in-Break-take : need.returns-in-Break-take
 returns-in-Break-take c =
@@ -78,7 +84,7 @@ returns-in-Break-take c =
     let e = c .in-Break-take .field-0 .0 in
     let t = token-turn (need.at·returns-in-Break-take c .In-Some) in
     let i = itemOf (c .in-Some .token) in
-    rw (p .1, p .2) (book-fails (c .args .text .now) e (c .if-text-gt-MOST-BYTES .left)
+    rw (p .1, p .2) (book-fails (c .args .text .now) e (c .in-Continue-check-length .ensures tt .short)
       (step-fails _ _ _ (c .loop-reader .inv .1) i e (t .inside) (sym (t .item))
         (subst (λ p. Fails (step (stateOf (c .loop-reader .reader)) p i) e) (t .parts .written .place) (c .in-Break-take .ensures tt))))
 
@@ -88,10 +94,10 @@ returns-in-Break-finish c =
     let e = c .in-Break-finish .field-0 .0 in
     let bs = c .args .text .now in
     let end = ended (need.at·returns-in-Break-finish c .After-next) (c .in-Continue-token .was tt ∙ ap Ok (c .in-rest .is)) in
-    rw (p .1, p .2) (subst (λ r. Fails r e) (sym (book-is bs (c .if-text-gt-MOST-BYTES .left) ∙ ap (λ r. andThen r (finished (length bs))) end)) (c .in-Break-finish .ensures tt))
+    rw (p .1, p .2) (subst (λ r. Fails r e) (sym (book-is bs (c .in-Continue-check-length .ensures tt .short) ∙ ap (λ r. andThen r (finished (length bs))) end)) (c .in-Break-finish .ensures tt))
 
 pub returns : need.returns
 returns c =
     let bs = c .args .text .now in
     let end = ended (need.at·returns c .After-next) (c .in-Continue-token .was tt ∙ ap Ok (c .in-rest .is)) in
-    book-is bs (c .if-text-gt-MOST-BYTES .left) ∙ ap (λ r. andThen r (finished (length bs))) end ∙ c .in-Continue-finish .ensures tt
+    book-is bs (c .in-Continue-check-length .ensures tt .short) ∙ ap (λ r. andThen r (finished (length bs))) end ∙ c .in-Continue-finish .ensures tt

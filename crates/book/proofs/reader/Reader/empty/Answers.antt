@@ -31,8 +31,8 @@ returns c =
     let self = c .args .self .now in
     let name = c .args .name .now in
     let e = c .in-Continue-element .element in
-    let x = ended e (c .args .place + 1 + length name) in
+    let x = ended e (c .slash-of .result) in
     let admitted = sym (at (need.at·returns c .After-admit)) ∙ c .in-Continue-element .ensures tt .element in
     let es = pushed {was = vec-items (self .elements)} (x ∷ []) refl (c .in-Continue-push .was tt) (c .push .ensures .items) in
     ap (λ r. andThen r (λ e. Ok (leaf (stateOf self) (c .args .place) name e))) admitted
-    ∙ ap Ok (leaf-is self (c .args .place) name e x _ (vec-items (c .admit .last .names .list)) refl es (c .in-Continue-element .ensures tt .names))
+    ∙ ap Ok (leaf-is self (c .args .place) name e x _ (vec-items (c .admit .last .names .list)) (ap (ended e) (c .slash-of .ensures)) es (c .in-Continue-element .ensures tt .names))
