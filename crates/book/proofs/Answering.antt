@@ -46,11 +46,12 @@ err-same : (f g : Fault) → _≡_ {A = Result Tree Fault} (Err f) (Err g) → f
 err-same f g e = cc
 
 pub every-text-has-one-answer : Every-text-has-one-answer
-every-text-has-one-answer text = record
-  { some = some (readBook text) refl
-  ; one-tree = λ t u g h. ok-same t u (sym (grants text t g) ∙ grants text u h)
-  ; one-refusal = λ f g h k. err-same f g (sym (refused-exactly text f .1 h) ∙ refused-exactly text g .1 k)
-  ; never-both = λ t f g h. ok-or-err t f (sym (refused-exactly text f .1 h) ∙ grants text t g) }
+every-text-has-one-answer text = record {
+  some = some (readBook text) refl;
+  one-tree = λ t u g h. ok-same t u (sym (grants text t g) ∙ grants text u h);
+  one-refusal = λ f g h k. err-same f g (sym (refused-exactly text f .1 h) ∙ refused-exactly text g .1 k);
+  never-both = λ t f g h. ok-or-err t f (sym (refused-exactly text f .1 h) ∙ grants text t g);
+}
   where
     some : (r : Result Tree Fault) → readBook text ≡ r → ((t : Tree) × Grants text t) ⊎ ((f : Fault) × Refuses text f)
     some (Ok t) e = inl (t, granted text t e)

@@ -113,8 +113,8 @@ module _ (s : State) (p : ℕ) (name : List ℕ) (l : LawfulName name) (f : Free
       let len′ = length-append (s .elements) (numbered (s .names) (n ∷ [])) in
       let v : Room t ns = record { few = omega (arith, u .few); names = u .names; shallow = u .shallow } in
       let put : set (t .elements ++ numbered (intern (s .names) name) ns) (length (s .elements)) (ended e to) ≡ s .elements ++ numbered (s .names) (n ∷ ns) =
-          ap (λ l. set l (length (s .elements)) (ended e to)) (append-assoc (s .elements) (e ∷ []) (numbered (intern (s .names) name) ns))
-          ∙ set-append-seam (s .elements) e (numbered (intern (s .names) name) ns) (ended e to) in
+      ap (λ l. set l (length (s .elements)) (ended e to)) (append-assoc (s .elements) (e ∷ []) (numbered (intern (s .names) name) ns))
+      ∙ set-append-seam (s .elements) e (numbered (intern (s .names) name) ns) (ended e to) in
       runs-tag s p (start name) (spell inner ++ (spelling (end name) ++ rest)) l
       ∙ ap (λ e. andThen (andThen e (λ e. Ok (opened s name e))) (λ t. runs t from (spell inner ++ (spelling (end name) ++ rest)))) (enter-ok s p n f refl (room-left s (n ∷ []) ns r))
       ∙ inside (spelling (end name) ++ rest) v
@@ -172,8 +172,8 @@ row-runs (full name inner c) s p rest l h r =
     let z : q + length (spell c) ≡ p + length (spell (full name inner c)) = full-length p name inner c in
     ap (runs s p) (four (spelling (start name)) (spell inner) (spelling (end name)) (spell c) rest)
     ∙ full-runs s p name (l .0) (free-inside s h) inner (spell c ++ rest)
-        (λ more v. row-runs inner (opened s name (begun s p name)) from more (l .1) (opened-inside (length (s .opens))) v)
-        (room-left s (n ∷ is) ns r)
+    (λ more v. row-runs inner (opened s name (begun s p name)) from more (l .1) (opened-inside (length (s .opens))) v)
+    (room-left s (n ∷ is) ns r)
     ∙ row-runs c (after s (n ∷ is)) q rest (l .2) h (room-right s (n ∷ is) ns r)
     ∙ (λ i. runs (after-append s (n ∷ is) ns i) (z i) rest)
 
@@ -209,8 +209,8 @@ single-runs (full name inner c) p l h r =
     let is : List Node = nodesAt from 1 inner in
     let z = blank-nodes c q 0 h in
     full-runs initial p name (l .0) refl inner (spell c)
-        (λ more v. row-runs inner (opened initial name (begun initial p name)) from more (l .1) (opened-inside 0) v)
-        (room-left initial (n ∷ is) (nodesAt q 0 c) r)
+    (λ more v. row-runs inner (opened initial name (begun initial p name)) from more (l .1) (opened-inside 0) v)
+    (room-left initial (n ∷ is) (nodesAt q 0 c) r)
     ∙ blank-runs c (after initial (n ∷ is)) q (l .2) h
     ∙ ap (λ ns. Ok (after initial (n ∷ ns))) (sym (append-nil is) ∙ ap (λ ns. is ++ ns) (sym z))
 
@@ -225,7 +225,7 @@ complete text ns d w =
     let c : Content = d .row in
     let r : Room initial (nodesAt 0 0 c) = subst (Room initial) (d .elements) (record { few = omega (arith, w .few); names = w .names; shallow = w .shallow }) in
     let ran : runs initial 0 text ≡ Ok (after initial ns) =
-        ap (runs initial 0) (d .spelled) ∙ single-runs c 0 (d .lawful) (d .single) r ∙ ap (λ l. Ok (after initial l)) (sym (d .elements)) in
+    ap (runs initial 0) (d .spelled) ∙ single-runs c 0 (d .lawful) (d .single) r ∙ ap (λ l. Ok (after initial l)) (sym (d .elements)) in
     let some : 0 < length ns = subst (λ l. 0 < length l) (sym (d .elements)) (some-node c 0 (d .single)) in
     let ne : eqb (length (numbered [] ns)) 0 ≡ false = ne-eqb _ _ (λ e. absurd (omega (arith, numbered-length [] ns))) in
     book-is text (w .short) ∙ ap (λ x. andThen x (finished (length text))) ran ∙ cond-false _ _ _ ne

@@ -26,13 +26,13 @@ pub allowed-granted : (opens count number p : ℕ) → Granted (λ _. Allowed op
 allowed-granted opens count number p =
     either (eqb opens 0 && not (eqb count 0)) _ _ (λ _. refuse _)
     (λ a. either (leb 64 opens) _ _ (λ _. refuse _)
-      (λ b. either (leb 65535 count || leb 1024 number) _ _ (λ _. refuse _)
-        (λ c.
-          let d = or-parts (leb 65535 count) (leb 1024 number) c in
-          let x = leb-false 64 opens b in
-          let y = leb-false 65535 count (d .0) in
-          let z = leb-false 1024 number (d .1) in
-          grant _ (record { free = a; level = omega arith; few = omega arith; names = omega arith }))))
+    (λ b. either (leb 65535 count || leb 1024 number) _ _ (λ _. refuse _)
+    (λ c.
+    let d = or-parts (leb 65535 count) (leb 1024 number) c in
+    let x = leb-false 64 opens b in
+    let y = leb-false 65535 count (d .0) in
+    let z = leb-false 1024 number (d .1) in
+    grant _ (record { free = a; level = omega arith; few = omega arith; names = omega arith }))))
 
 -- none of the refusals holds
 pub allowed-ok : (opens count number p : ℕ) → Allowed opens count number → allowed opens count number p ≡ Ok tt

@@ -86,17 +86,18 @@ nil-forest level p q = record { span = tt; pairs = tt; levels = tt }
 join : (level p m k q : ℕ) (xs ys : List Node) → p ≤ k → m ≤ k → m ≤ q → Forest level p m xs → Forest level k q ys → Forest level p q (xs ++ ys)
 join level p m k q xs ys a b c f g =
     let later : (u : Node) → Span p m u → All (λ v. Ordered u v) ys =
-        λ u s. all-weaker (Span k q) (Ordered u) (λ v t. (omega arith, inr (omega arith))) ys (g .span) in
-    record
-      { span = all-append (Span p q) xs ys (all-weaker (Span p m) (Span p q) (λ u s. omega arith) xs (f .span)) (all-weaker (Span k q) (Span p q) (λ u s. omega arith) ys (g .span))
-      ; pairs = pairs-append Ordered xs ys (f .pairs) (g .pairs) (all-weaker (Span p m) (λ u. All (Ordered u) ys) later xs (f .span))
-      ; levels = all-append _ xs ys
+    λ u s. all-weaker (Span k q) (Ordered u) (λ v t. (omega arith, inr (omega arith))) ys (g .span) in
+    record {
+      span = all-append (Span p q) xs ys (all-weaker (Span p m) (Span p q) (λ u s. omega arith) xs (f .span)) (all-weaker (Span k q) (Span p q) (λ u s. omega arith) ys (g .span));
+      pairs = pairs-append Ordered xs ys (f .pairs) (g .pairs) (all-weaker (Span p m) (λ u. All (Ordered u) ys) later xs (f .span));
+      levels = all-append _ xs ys
           (all-weaker (λ v. Span p m v × (v .level ≡ level + countIn xs v)) (λ v. v .level ≡ level + countIn (xs ++ ys) v) (λ v s. let e = count-append xs ys v in
-              let z = none-around ys v (all-weaker (Span k q) (λ u. contains (regionOfNode u) (regionOfNode v) ≡ false) (λ u t. starts-later u v (omega arith)) ys (g .span)) in omega arith) xs
-            (all-both (Span p m) _ xs (f .span) (f .levels)))
+          let z = none-around ys v (all-weaker (Span k q) (λ u. contains (regionOfNode u) (regionOfNode v) ≡ false) (λ u t. starts-later u v (omega arith)) ys (g .span)) in omega arith) xs
+          (all-both (Span p m) _ xs (f .span) (f .levels)))
           (all-weaker (λ v. Span k q v × (v .level ≡ level + countIn ys v)) (λ v. v .level ≡ level + countIn (xs ++ ys) v) (λ v s. let e = count-append xs ys v in
-              let z = none-around xs v (all-weaker (Span p m) (λ u. contains (regionOfNode u) (regionOfNode v) ≡ false) (λ u t. ends-earlier u v (omega arith)) xs (f .span)) in omega arith) ys
-            (all-both (Span k q) _ ys (g .span) (g .levels))) }
+          let z = none-around xs v (all-weaker (Span p m) (λ u. contains (regionOfNode u) (regionOfNode v) ≡ false) (λ u t. ends-earlier u v (omega arith)) xs (f .span)) in omega arith) ys
+          (all-both (Span k q) _ ys (g .span) (g .levels)));
+    }
 
 -- an element around a row
 wrap : (level p k m : ℕ) (name : List ℕ) (xs : List Node) → p < k → k ≤ m → Forest (suc level) k m xs
@@ -106,14 +107,17 @@ wrap level p k m name xs a b f =
     let self : contains (regionOfNode x) (regionOfNode x) ≡ false = starts-later x x (omega arith) in
     let selfs = weight-no x x self in
     let z = none-around xs x (all-weaker (Span k m) (λ u. contains (regionOfNode u) (regionOfNode x) ≡ false) (λ u s. starts-later u x (omega arith)) xs (f .span)) in
-    record
-      { span = ((omega arith, omega arith, omega arith), all-weaker (Span k m) (Span p (suc m)) (λ u s. omega arith) xs (f .span))
-      ; pairs = (all-weaker (Span k m) (Ordered x) (λ v s. (omega arith, inl (s .2))) xs (f .span), f .pairs)
-      ; levels = (omega arith,
-          all-weaker (λ v. Span k m v × (v .level ≡ suc level + countIn xs v)) (λ v. v .level ≡ level + countIn (x ∷ xs) v) (λ v s.
-              let yes : contains (regionOfNode x) (regionOfNode v) ≡ true = and-from _ _ (lt-ltb p (v .start) (omega arith)) (lt-ltb (v .end) m (omega arith)) in
-              let one = weight-yes x v yes in omega arith) xs
-            (all-both (Span k m) _ xs (f .span) (f .levels))) }
+    record {
+      span = ((omega arith, omega arith, omega arith), all-weaker (Span k m) (Span p (suc m)) (λ u s. omega arith) xs (f .span));
+      pairs = (all-weaker (Span k m) (Ordered x) (λ v s. (omega arith, inl (s .2))) xs (f .span), f .pairs);
+      levels = (
+        omega arith,
+        all-weaker (λ v. Span k m v × (v .level ≡ suc level + countIn xs v)) (λ v. v .level ≡ level + countIn (x ∷ xs) v) (λ v s.
+            let yes : contains (regionOfNode x) (regionOfNode v) ≡ true = and-from _ _ (lt-ltb p (v .start) (omega arith)) (lt-ltb (v .end) m (omega arith)) in
+            let one = weight-yes x v yes in omega arith) xs
+            (all-both (Span k m) _ xs (f .span) (f .levels)),
+      );
+    }
 
 -- the elements of a row
 pub row-forest : (c : Content) (level p : ℕ) → Forest level p (p + length (spell c)) (nodesAt p level c)

@@ -72,11 +72,11 @@ module _ (s : State) (p : ℕ) where
       ⊎-elim
       (λ (e : eqb b 60 ≡ true). sym (ap (Front (b ∷ bs)) (ap (λ x. cond (not x) (1 + leading textByte bs) 0) e) ∙ no-run (b ∷ bs)))
       (λ (e : eqb b 60 ≡ false).
-        let k : ℕ = leading textByte (b ∷ bs) in
-        let le = leading-le-length textByte (b ∷ bs) in
-        let size : length (take k (b ∷ bs)) ≡ k = omega (arith, length-take k (b ∷ bs)) in
-        runs-item s p b bs (text (take k (b ∷ bs))) (cond-false _ _ _ e)
-        ∙ ap (λ n. andThen (between s p (take k (b ∷ bs))) (λ t. runs t (p + n) (drop n (b ∷ bs)))) size)
+      let k : ℕ = leading textByte (b ∷ bs) in
+      let le = leading-le-length textByte (b ∷ bs) in
+      let size : length (take k (b ∷ bs)) ≡ k = omega (arith, length-take k (b ∷ bs)) in
+      runs-item s p b bs (text (take k (b ∷ bs))) (cond-false _ _ _ e)
+      ∙ ap (λ n. andThen (between s p (take k (b ∷ bs))) (λ t. runs t (p + n) (drop n (b ∷ bs)))) size)
       (cases-bool (eqb b 60))
 
 -- within an element any byte of text may stand, and outside a blank
@@ -143,10 +143,11 @@ front s p bs = go (itemAt p (60 ∷ bs)) refl
     go : (r : Result Item Fault) → itemAt p (60 ∷ bs) ≡ r → Front-tag s p (60 ∷ bs) ⊎ ((f : Fault) × (itemAt p (60 ∷ bs) ≡ Err f))
     go (Ok i) e =
         let t = item-front p 60 bs i e in
-        inl (record
-          { item = i
-          ; rest = t .rest
-          ; lawful = subst (Granted Tag) e (tagged p bs) .granted
-          ; spelled = t .spelled
-          ; shorter = omega (arith, t .some, ap (λ l. length l) (t .spelled), length-append (spelling i) (t .rest)) })
+        inl (record {
+          item = i;
+          rest = t .rest;
+          lawful = subst (Granted Tag) e (tagged p bs) .granted;
+          spelled = t .spelled;
+          shorter = omega (arith, t .some, ap (λ l. length l) (t .spelled), length-append (spelling i) (t .rest));
+        })
     go (Err f) e = inr (f, e)

@@ -31,12 +31,13 @@ module _ (name : List ℕ) where
       let ih = here names in
       ⊎-elim
       (λ (e : sameBytes n name ≡ true).
-        let z : position (n ∷ names) name ≡ 0 = ap (λ x. cond (not x) (1 + k) 0) e in
-        (λ _. ap (λ i. getD (n ∷ names) i []) z ∙ sameBytes-decides n name .0 e, λ h. absurd (omega arith)))
+      let z : position (n ∷ names) name ≡ 0 = ap (λ x. cond (not x) (1 + k) 0) e in
+      (λ _. ap (λ i. getD (n ∷ names) i []) z ∙ sameBytes-decides n name .0 e, λ h. absurd (omega arith)))
       (λ (e : sameBytes n name ≡ false).
-        let z : position (n ∷ names) name ≡ suc k = ap (λ x. cond (not x) (1 + k) 0) e ∙ omega arith in
-        (λ h. ap (λ i. getD (n ∷ names) i []) z ∙ ih .0 (omega arith),
-         λ h. (λ same. true≢false (sym (sameBytes-decides n name .1 same) ∙ e), ih .1 (omega arith))))
+      let z : position (n ∷ names) name ≡ suc k = ap (λ x. cond (not x) (1 + k) 0) e ∙ omega arith in (
+        λ h. ap (λ i. getD (n ∷ names) i []) z ∙ ih .0 (omega arith),
+        λ h. (λ same. true≢false (sym (sameBytes-decides n name .1 same) ∙ e), ih .1 (omega arith)),
+      ))
       (cases-bool (sameBytes n name))
 
 -- One more name.
@@ -50,7 +51,7 @@ module _ (names : List (List ℕ)) (name : List ℕ) where
       let l = position-within in
       ⊎-elim (λ (e : eqb (position names name) (length names) ≡ true). inr (eqb-true _ _ e, cond-true _ _ _ e))
       (λ (e : eqb (position names name) (length names) ≡ false).
-        let ne = eqb-false _ _ e in let lt : position names name < length names = omega arith in inl (lt, cond-false _ _ _ e))
+      let ne = eqb-false _ _ e in let lt : position names name < length names = omega arith in inl (lt, cond-false _ _ _ e))
       (cases-bool (eqb (position names name) (length names)))
 
   pub intern-counts : length (intern names name) ≡ max (length names) (position names name + 1)
@@ -87,13 +88,13 @@ module _ (names : List (List ℕ)) (name : List ℕ) where
   intern-different d =
       ⊎-elim (λ q. subst Different (sym (q .1)) d)
       (λ q. subst Different (sym (q .1)) (λ j k l m e.
-        let long = length-append names (name ∷ []) in
-        let old : (i : ℕ) → i < length names → getD (names ++ name ∷ []) i [] ≡ getD names i [] = λ i h. List·getD-append names (name ∷ []) [] i h in
-        ⊎-elim
-        (λ (h : k < length names). d j k l h (sym (old j (omega arith)) ∙ e ∙ old k h))
-        (λ (h : length names ≤ k).
-          let last : length names ≡ k = omega arith in
-          all-getD (λ n. n ≡ name → ⊥) names j [] (omega arith) (here name names .1 (q .0))
-          (sym (old j (omega arith)) ∙ e ∙ ap (λ i. getD (names ++ name ∷ []) i []) (sym last) ∙ getD-append-seam names name [] []))
-        (cases-lt k (length names))))
+      let long = length-append names (name ∷ []) in
+      let old : (i : ℕ) → i < length names → getD (names ++ name ∷ []) i [] ≡ getD names i [] = λ i h. List·getD-append names (name ∷ []) [] i h in
+      ⊎-elim
+      (λ (h : k < length names). d j k l h (sym (old j (omega arith)) ∙ e ∙ old k h))
+      (λ (h : length names ≤ k).
+      let last : length names ≡ k = omega arith in
+      all-getD (λ n. n ≡ name → ⊥) names j [] (omega arith) (here name names .1 (q .0))
+      (sym (old j (omega arith)) ∙ e ∙ ap (λ i. getD (names ++ name ∷ []) i []) (sym last) ∙ getD-append-seam names name [] []))
+      (cases-lt k (length names))))
       interned

@@ -53,9 +53,10 @@ named-keeps names (n ∷ ns) i h =
 
 pub uses : (names : List (List ℕ)) (ns : List Node) → FirstUses (length names) (numbered names ns) (length (named names ns))
 uses names [] = refl
-uses names (n ∷ ns) =
-    (position-within names (n .name),
-     subst (λ k. FirstUses k (numbered (intern names (n .name)) ns) (length (named (intern names (n .name)) ns))) (intern-counts names (n .name)) (uses (intern names (n .name)) ns))
+uses names (n ∷ ns) = (
+  position-within names (n .name),
+  subst (λ k. FirstUses k (numbered (intern names (n .name)) ns) (length (named (intern names (n .name)) ns))) (intern-counts names (n .name)) (uses (intern names (n .name)) ns),
+)
 
 numbers : (names : List (List ℕ)) (ns : List Node) → map (nodeOf (named names ns)) (numbered names ns) ≡ ns
 numbers names [] = refl
@@ -107,17 +108,17 @@ module _ (N : List (List ℕ)) (different : Different N) where
       let p = placed M (r ∷ R) e (x .name) (h .0) (omega (arith, h .0)) in
       ⊎-elim
       (λ (lt : x .name < length M).
-        let same : max (length M) (x .name + 1) ≡ length M = omega arith in
-        one x es M M p (kept M (getD N (x .name) []) (omega arith)) (renumber es M (r ∷ R) e (subst (λ k. FirstUses k es (length N)) same (h .1))))
+      let same : max (length M) (x .name + 1) ≡ length M = omega arith in
+      one x es M M p (kept M (getD N (x .name) []) (omega arith)) (renumber es M (r ∷ R) e (subst (λ k. FirstUses k es (length N)) same (h .1))))
       (λ (ge : length M ≤ x .name).
-        let is : x .name ≡ length M = omega (arith, h .0) in
-        let y : List ℕ = getD N (x .name) [] in
-        let this : y ≡ r = ap (λ k. getD N k []) is ∙ ap (λ l. getD l (length M) []) e ∙ getD-append-seam M r R [] in
-        let K : List (List ℕ) = M ++ r ∷ [] in
-        let long = length-append M (r ∷ []) in
-        let same : max (length M) (x .name + 1) ≡ length K = omega arith in
-        one x es M K p (added M y (p ∙ is) ∙ ap (λ z. M ++ z ∷ []) this)
-          (renumber es K R (e ∙ sym (append-assoc M (r ∷ []) R)) (subst (λ k. FirstUses k es (length N)) same (h .1))))
+      let is : x .name ≡ length M = omega (arith, h .0) in
+      let y : List ℕ = getD N (x .name) [] in
+      let this : y ≡ r = ap (λ k. getD N k []) is ∙ ap (λ l. getD l (length M) []) e ∙ getD-append-seam M r R [] in
+      let K : List (List ℕ) = M ++ r ∷ [] in
+      let long = length-append M (r ∷ []) in
+      let same : max (length M) (x .name + 1) ≡ length K = omega arith in
+      one x es M K p (added M y (p ∙ is) ∙ ap (λ z. M ++ z ∷ []) this)
+      (renumber es K R (e ∙ sym (append-assoc M (r ∷ []) R)) (subst (λ k. FirstUses k es (length N)) same (h .1))))
       (cases-lt (x .name) (length M))
 
 pub renumbered : (t : Tree) → Different (t .names) → FirstUses 0 (t .elements) (length (t .names)) → indexed (nodesOf t) ≡ t

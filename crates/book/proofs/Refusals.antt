@@ -97,36 +97,38 @@ module _ (h : History) (s : State) (m : Matches h s) (name : List ℕ) (l : Lawf
   entering-cases =
       ⊎-elim (λ (a : (eqb (length (s .opens)) 0 && not (eqb (length (s .elements)) 0)) ≡ true). inr (_, by (cond-true _ _ _ a), second (second-test a) refl))
       (λ (a : (eqb (length (s .opens)) 0 && not (eqb (length (s .elements)) 0)) ≡ false).
-        ⊎-elim (λ (b : leb 64 (length (s .opens)) ≡ true).
-            let x = leb-true 64 (length (s .opens)) b in
-            let y : Deep h = omega (arith, depth h s m) in
-            inr (_, by (cond-false _ _ _ a ∙ cond-true _ _ _ b), deep (first-test a) y refl))
-        (λ (b : leb 64 (length (s .opens)) ≡ false).
-            let x = leb-false 64 (length (s .opens)) b in
-            let y : Deep h → ⊥ = λ w. omega (arith, depth h s m) in
-            ⊎-elim (λ (c : (leb 65535 (length (s .elements)) || leb 1024 (position (s .names) name)) ≡ true).
-              inr (_, by (cond-false _ _ _ a ∙ cond-false _ _ _ b ∙ cond-true _ _ _ c), many (first-test a) y (many-test c) refl))
-            (λ (c : (leb 65535 (length (s .elements)) || leb 1024 (position (s .names) name)) ≡ false).
-              inl (by (cond-false _ _ _ a ∙ cond-false _ _ _ b ∙ cond-false _ _ _ c), record { lawful = l; first = first-test a; shallow = y; few = few-test c }))
-            (cases-bool (leb 65535 (length (s .elements)) || leb 1024 (position (s .names) name))))
-        (cases-bool (leb 64 (length (s .opens)))))
+      ⊎-elim (λ (b : leb 64 (length (s .opens)) ≡ true).
+      let x = leb-true 64 (length (s .opens)) b in
+      let y : Deep h = omega (arith, depth h s m) in
+      inr (_, by (cond-false _ _ _ a ∙ cond-true _ _ _ b), deep (first-test a) y refl))
+      (λ (b : leb 64 (length (s .opens)) ≡ false).
+      let x = leb-false 64 (length (s .opens)) b in
+      let y : Deep h → ⊥ = λ w. omega (arith, depth h s m) in
+      ⊎-elim (λ (c : (leb 65535 (length (s .elements)) || leb 1024 (position (s .names) name)) ≡ true).
+      inr (_, by (cond-false _ _ _ a ∙ cond-false _ _ _ b ∙ cond-true _ _ _ c), many (first-test a) y (many-test c) refl))
+      (λ (c : (leb 65535 (length (s .elements)) || leb 1024 (position (s .names) name)) ≡ false).
+      inl (by (cond-false _ _ _ a ∙ cond-false _ _ _ b ∙ cond-false _ _ _ c), record { lawful = l; first = first-test a; shallow = y; few = few-test c }))
+      (cases-bool (leb 65535 (length (s .elements)) || leb 1024 (position (s .names) name))))
+      (cases-bool (leb 64 (length (s .opens)))))
       (cases-bool (eqb (length (s .opens)) 0 && not (eqb (length (s .elements)) 0)))
 
   matches-opening : Matches (opening h name) (opened s name (begun s (length (written h)) name))
   matches-opening =
       let e : Element = begun s (length (written h)) name in
-      record
-        { count = omega (arith, length-append (s .elements) (e ∷ []), m .count)
-        ; names = ap (λ ns. intern ns name) (m .names)
-        ; opens = ap (λ os. (length (written h), name) ∷ os) (m .opens) }
+      record {
+        count = omega (arith, length-append (s .elements) (e ∷ []), m .count);
+        names = ap (λ ns. intern ns name) (m .names);
+        opens = ap (λ os. (length (written h), name) ∷ os) (m .opens);
+      }
 
   matches-bare : Matches (bare h name) (leaf s (length (written h)) name (begun s (length (written h)) name))
   matches-bare =
       let e : Element = ended (begun s (length (written h)) name) (length (written h) + 1 + length name) in
-      record
-        { count = omega (arith, length-append (s .elements) (e ∷ []), m .count)
-        ; names = ap (λ ns. intern ns name) (m .names)
-        ; opens = m .opens }
+      record {
+        count = omega (arith, length-append (s .elements) (e ∷ []), m .count);
+        names = ap (λ ns. intern ns name) (m .names);
+        opens = m .opens;
+      }
 
 -- An end tag: it closes the innermost, or is refused.
 Closing : History → State → List ℕ → Type 0
@@ -142,10 +144,14 @@ closing-cases h es ns (o ∷ os) name m =
     let p : ℕ = length (written h) in
     ⊎-elim
     (λ (q : sameBytes (o .name) name ≡ true).
-      inl (_, cond-true _ _ _ q, subst (λ l. Innermost l name) (m .opens) (sameBytes-decides (o .name) name .0 q),
-        record { count = length-set es (o .number) (ended (o .element) p) ∙ m .count; names = m .names; opens = ap (drop 1) (m .opens) }))
+    inl (
+      _,
+      cond-true _ _ _ q,
+      subst (λ l. Innermost l name) (m .opens) (sameBytes-decides (o .name) name .0 q),
+      record { count = length-set es (o .number) (ended (o .element) p) ∙ m .count; names = m .names; opens = ap (drop 1) (m .opens) },
+    ))
     (λ (q : sameBytes (o .name) name ≡ false).
-      inr (cond-false _ _ _ q, λ x. true≢false (sym (sameBytes-decides (o .name) name .1 (subst (λ l. Innermost l name) (sym (m .opens)) x)) ∙ q)))
+    inr (cond-false _ _ _ q, λ x. true≢false (sym (sameBytes-decides (o .name) name .1 (subst (λ l. Innermost l name) (sym (m .opens)) x)) ∙ q)))
     (cases-bool (sameBytes (o .name) name))
 
 -- The end of the text.
@@ -167,10 +173,10 @@ module _ (whole : List ℕ) (f : Fault) where
       let long : length whole ≡ length (written h) = ap (λ l. length l) (c ∙ append-nil (written h)) in
       ⊎-elim
       (λ (z : eqb (length (s .elements)) 0 ≡ true).
-        stop h [] a c (missing refl (sym (m .count) ∙ eqb-true _ _ z) (sym (err-same _ f (sym (cond-true _ _ _ z) ∙ e)) ∙ ap (fault TopElement) long)))
+      stop h [] a c (missing refl (sym (m .count) ∙ eqb-true _ _ z) (sym (err-same _ f (sym (cond-true _ _ _ z) ∙ e)) ∙ ap (fault TopElement) long)))
       (λ (z : eqb (length (s .elements)) 0 ≡ false).
-        let ne = eqb-false (length (s .elements)) 0 z in
-        stop h [] a c (closed-wrong h s (s .opens) f (m .opens) (omega (arith, m .count)) (sym (cond-false _ _ _ z) ∙ e)))
+      let ne = eqb-false (length (s .elements)) 0 z in
+      stop h [] a c (closed-wrong h s (s .opens) f (m .opens) (omega (arith, m .count)) (sym (cond-false _ _ _ z) ∙ e)))
       (cases-bool (eqb (length (s .elements)) 0))
 
   Goes-on : ℕ → Type 0
@@ -192,27 +198,27 @@ module _ (whole : List ℕ) (f : Fault) where
         let r = sym (ap (λ x. andThen x (finished (length whole))) (runs-tag s p (start n) rest l)) ∙ e in
         ⊎-elim
         (λ o. next (opening h n) (opened s n (begun s p n)) (spelling (start n)) rest len (a, o .1) (matches-opening h s m n l) refl c
-          (sym (ap (λ x. andThen (andThen (andThen x (λ e. Ok (opened s n e))) (λ t. runs t (p + length (spelling (start n))) rest)) (finished (length whole))) (o .0)) ∙ r))
+        (sym (ap (λ x. andThen (andThen (andThen x (λ e. Ok (opened s n e))) (λ t. runs t (p + length (spelling (start n))) rest)) (finished (length whole))) (o .0)) ∙ r))
         (λ o. stop h (spelling (start n) ++ rest) a c (unfit n rest l (inl refl)
-          (subst (Unfit h n) (err-same (o .0) f (sym (ap (λ x. andThen (andThen (andThen x (λ e. Ok (opened s n e))) (λ t. runs t (p + length (spelling (start n))) rest)) (finished (length whole))) (o .1)) ∙ r)) (o .2))))
+        (subst (Unfit h n) (err-same (o .0) f (sym (ap (λ x. andThen (andThen (andThen x (λ e. Ok (opened s n e))) (λ t. runs t (p + length (spelling (start n))) rest)) (finished (length whole))) (o .1)) ∙ r)) (o .2))))
         (entering-cases h s m n l)
     tags (empty n) rest l len c e =
         let p : ℕ = length (written h) in
         let r = sym (ap (λ x. andThen x (finished (length whole))) (runs-tag s p (empty n) rest l)) ∙ e in
         ⊎-elim
         (λ o. next (bare h n) (leaf s p n (begun s p n)) (spelling (empty n)) rest len (a, o .1) (matches-bare h s m n l) refl c
-          (sym (ap (λ x. andThen (andThen (andThen x (λ e. Ok (leaf s p n e))) (λ t. runs t (p + length (spelling (empty n))) rest)) (finished (length whole))) (o .0)) ∙ r))
+        (sym (ap (λ x. andThen (andThen (andThen x (λ e. Ok (leaf s p n e))) (λ t. runs t (p + length (spelling (empty n))) rest)) (finished (length whole))) (o .0)) ∙ r))
         (λ o. stop h (spelling (empty n) ++ rest) a c (unfit n rest l (inr refl)
-          (subst (Unfit h n) (err-same (o .0) f (sym (ap (λ x. andThen (andThen (andThen x (λ e. Ok (leaf s p n e))) (λ t. runs t (p + length (spelling (empty n))) rest)) (finished (length whole))) (o .1)) ∙ r)) (o .2))))
+        (subst (Unfit h n) (err-same (o .0) f (sym (ap (λ x. andThen (andThen (andThen x (λ e. Ok (leaf s p n e))) (λ t. runs t (p + length (spelling (empty n))) rest)) (finished (length whole))) (o .1)) ∙ r)) (o .2))))
         (entering-cases h s m n l)
     tags (end n) rest l len c e =
         let p : ℕ = length (written h) in
         let r = sym (ap (λ x. andThen x (finished (length whole))) (runs-tag s p (end n) rest l)) ∙ e in
         ⊎-elim
         (λ o. next (closing h n) (o .0) (spelling (end n)) rest len (a, l, o .2) (o .3) refl c
-          (sym (ap (λ x. andThen (andThen x (λ t. runs t (p + length (spelling (end n))) rest)) (finished (length whole))) (o .1)) ∙ r))
+        (sym (ap (λ x. andThen (andThen x (λ t. runs t (p + length (spelling (end n))) rest)) (finished (length whole))) (o .1)) ∙ r))
         (λ o. stop h (spelling (end n) ++ rest) a c (astray n rest l refl (o .1)
-          (sym (err-same _ f (sym (ap (λ x. andThen (andThen x (λ t. runs t (p + length (spelling (end n))) rest)) (finished (length whole))) (o .0)) ∙ r)))))
+        (sym (err-same _ f (sym (ap (λ x. andThen (andThen x (λ t. runs t (p + length (spelling (end n))) rest)) (finished (length whole))) (o .0)) ∙ r)))))
         (closing-cases h (s .elements) (s .names) (s .opens) n m)
     tags (text bs) rest l len c e = absurd l
 
@@ -222,7 +228,7 @@ module _ (whole : List ℕ) (f : Fault) where
         let p : ℕ = length (written h) in
         ⊎-elim
         (λ (t : Front-tag s p (60 ∷ bs)).
-          tags (t .item) (t .rest) (t .lawful) (omega (arith, t .shorter)) (c ∙ ap (λ l. written h ++ l) (t .spelled)) (ap (λ l. andThen (runs s p l) (finished (length whole))) (sym (t .spelled)) ∙ e))
+        tags (t .item) (t .rest) (t .lawful) (omega (arith, t .shorter)) (c ∙ ap (λ l. written h ++ l) (t .spelled)) (ap (λ l. andThen (runs s p l) (finished (length whole))) (sym (t .spelled)) ∙ e))
         (λ x. stop h (60 ∷ bs) a c (bytes bs refl (bad-tag p bs f (x .1 ∙ ap Err (err-same (x .0) f (sym (ap (λ r. andThen r (finished (length whole))) (runs-fault s p 60 bs (x .0) (x .1))) ∙ e))))))
         (front s p bs)
 
@@ -232,18 +238,18 @@ module _ (whole : List ℕ) (f : Fault) where
         let p : ℕ = length (written h) in
         let tb : textByte b ≡ true = ap not x in
         let go : Calm s b → ((0 < length (opensOf h)) ⊎ (blankByte b ≡ true)) → Stops whole f =
-            λ calm ok. next (byte h b) s (b ∷ []) bs len (a, tb, ok) (record { count = m .count; names = m .names; opens = m .opens }) refl c
-              (ap (λ r. andThen r (finished (length whole))) (sym (runs-byte s p b bs tb calm)) ∙ e) in
+        λ calm ok. next (byte h b) s (b ∷ []) bs len (a, tb, ok) (record { count = m .count; names = m .names; opens = m .opens }) refl c
+        (ap (λ r. andThen r (finished (length whole))) (sym (runs-byte s p b bs tb calm)) ∙ e) in
         ⊎-elim
         (λ (o : eqb (length (s .opens)) 0 ≡ true).
-          ⊎-elim (λ (w : blankByte b ≡ true). go (inr w) (inr w))
-          (λ (w : blankByte b ≡ false).
-            stop h (b ∷ bs) a c (outside b bs refl tb w (sym (depth h s m) ∙ eqb-true _ _ o)
-              (sym (err-same _ f (sym (ap (λ r. andThen r (finished (length whole))) (runs-stray s p b bs tb o w)) ∙ e)))))
-          (cases-bool (blankByte b)))
+        ⊎-elim (λ (w : blankByte b ≡ true). go (inr w) (inr w))
+        (λ (w : blankByte b ≡ false).
+        stop h (b ∷ bs) a c (outside b bs refl tb w (sym (depth h s m) ∙ eqb-true _ _ o)
+        (sym (err-same _ f (sym (ap (λ r. andThen r (finished (length whole))) (runs-stray s p b bs tb o w)) ∙ e)))))
+        (cases-bool (blankByte b)))
         (λ (o : eqb (length (s .opens)) 0 ≡ false).
-          let ne = eqb-false (length (s .opens)) 0 o in
-          let lt : 0 < length (opensOf h) = omega (arith, depth h s m) in go (inl o) (inl lt))
+        let ne = eqb-false (length (s .opens)) 0 o in
+        let lt : 0 < length (opensOf h) = omega (arith, depth h s m) in go (inl o) (inl lt))
         (cases-bool (eqb (length (s .opens)) 0))
 
   goes-on : (k : ℕ) → Goes-on k
@@ -254,8 +260,8 @@ module _ (whole : List ℕ) (f : Fault) where
   goes-on (suc k) h s (b ∷ bs) len a m c e =
       ⊎-elim
       (λ (x : eqb b 60 ≡ true).
-        let z : b ≡ 60 = eqb-true b 60 x in
-        angles k (goes-on k) h s a m bs (omega arith) (c ∙ ap (λ y. written h ++ y ∷ bs) z) (subst (λ y. Fails s (length (written h)) (y ∷ bs)) z e))
+      let z : b ≡ 60 = eqb-true b 60 x in
+      angles k (goes-on k) h s a m bs (omega arith) (c ∙ ap (λ y. written h ++ y ∷ bs) z) (subst (λ y. Fails s (length (written h)) (y ∷ bs)) z e))
       (λ (x : eqb b 60 ≡ false). texts k (goes-on k) h s a m b bs x (omega arith) c e)
       (cases-bool (eqb b 60))
 
@@ -264,11 +270,11 @@ unfolding Fails Goes-on
 stops bs f e =
     ⊎-elim
     (λ (z : leb (length bs) 16777216 ≡ true).
-      let m : Matches begin initial = record { count = refl; names = refl; opens = refl } in
-      inr (leb-true _ _ z, goes-on bs f (length bs) begin initial bs (omega arith) tt m refl (sym (book-is bs (leb-true _ _ z)) ∙ e)))
+    let m : Matches begin initial = record { count = refl; names = refl; opens = refl } in
+    inr (leb-true _ _ z, goes-on bs f (length bs) begin initial bs (omega arith) tt m refl (sym (book-is bs (leb-true _ _ z)) ∙ e)))
     (λ (z : leb (length bs) 16777216 ≡ false).
-      let lt = leb-false (length bs) 16777216 z in
-      inl (omega arith, sym (err-same _ f (sym (too-long bs _ (cond-false _ _ _ z)) ∙ e))))
+    let lt = leb-false (length bs) 16777216 z in
+    inl (omega arith, sym (err-same _ f (sym (too-long bs _ (cond-false _ _ _ z)) ∙ e))))
     (cases-bool (leb (length bs) 16777216))
 
 -- The other way round.
@@ -298,12 +304,13 @@ record Reached (h : History) : Type 0 where
 -- one item more
 reach : (h g : History) (r : Reached h) (t : State) (item : List ℕ) → written g ≡ written h ++ item → Matches g t
     → ((rest : List ℕ) → runs (r .state) (length (written h)) (item ++ rest) ≡ runs t (length (written h) + length item) rest) → Reached g
-reach h g r t item w m e = record
-  { state = t
-  ; matches = m
-  ; comes = λ rest.
+reach h g r t item w m e = record {
+  state = t;
+  matches = m;
+  comes = λ rest.
       let z : length (written h) + length item ≡ length (written g) = sym (ap (λ l. length l) w ∙ length-append (written h) item) in
-      ap (λ l. runs initial 0 (l ++ rest)) w ∙ ap (runs initial 0) (append-assoc (written h) item rest) ∙ r .comes (item ++ rest) ∙ e rest ∙ ap (λ q. runs t q rest) z }
+      ap (λ l. runs initial 0 (l ++ rest)) w ∙ ap (runs initial 0) (append-assoc (written h) item rest) ∙ r .comes (item ++ rest) ∙ e rest ∙ ap (λ q. runs t q rest) z;
+}
 
 reached : (h : History) → Allowed h → Reached h
 unfolding Entering Closing
@@ -321,7 +328,7 @@ reached (bare h n) a =
     let l = a .1 .lawful in
     ⊎-elim
     (λ o. reach h (bare h n) r (leaf s p n (begun s p n)) (spelling (empty n)) refl (matches-bare h s (r .matches) n l)
-      (λ rest. runs-tag s p (empty n) rest l ∙ ap (λ x. andThen (andThen x (λ e. Ok (leaf s p n e))) (λ t. runs t (p + length (spelling (empty n))) rest)) (o .0)))
+    (λ rest. runs-tag s p (empty n) rest l ∙ ap (λ x. andThen (andThen x (λ e. Ok (leaf s p n e))) (λ t. runs t (p + length (spelling (empty n))) rest)) (o .0)))
     (λ o. absurd (fit-not-unfit h n (o .0) (a .1) (o .2)))
     (entering-cases h s (r .matches) n l)
 reached (opening h n) a =
@@ -331,7 +338,7 @@ reached (opening h n) a =
     let l = a .1 .lawful in
     ⊎-elim
     (λ o. reach h (opening h n) r (opened s n (begun s p n)) (spelling (start n)) refl (matches-opening h s (r .matches) n l)
-      (λ rest. runs-tag s p (start n) rest l ∙ ap (λ x. andThen (andThen x (λ e. Ok (opened s n e))) (λ t. runs t (p + length (spelling (start n))) rest)) (o .0)))
+    (λ rest. runs-tag s p (start n) rest l ∙ ap (λ x. andThen (andThen x (λ e. Ok (opened s n e))) (λ t. runs t (p + length (spelling (start n))) rest)) (o .0)))
     (λ o. absurd (fit-not-unfit h n (o .0) (a .1) (o .2)))
     (entering-cases h s (r .matches) n l)
 reached (closing h n) a =
@@ -340,7 +347,7 @@ reached (closing h n) a =
     let p : ℕ = length (written h) in
     ⊎-elim
     (λ o. reach h (closing h n) r (o .0) (spelling (end n)) refl (o .3)
-      (λ rest. runs-tag s p (end n) rest (a .1) ∙ ap (λ x. andThen x (λ t. runs t (p + length (spelling (end n))) rest)) (o .1)))
+    (λ rest. runs-tag s p (end n) rest (a .1) ∙ ap (λ x. andThen x (λ t. runs t (p + length (spelling (end n))) rest)) (o .1)))
     (λ o. absurd (o .1 (a .2)))
     (closing-cases h (s .elements) (s .names) (s .opens) n (r .matches))
 
@@ -358,15 +365,15 @@ module _ (h : History) (s : State) (m : Matches h s) (n : ℕ) where
       let p : ℕ = length (written h) in
       ⊎-elim (λ o. absurd (fit-not-unfit h name f (o .1) u))
       (λ o. ap (λ r. andThen (runs s p r) (finished n)) e ∙ ap (λ x. andThen x (finished n)) (runs-tag s p (start name) more l)
-        ∙ ap (λ x. andThen (andThen (andThen x (λ e. Ok (opened s name e))) (λ t. runs t (p + length (spelling (start name))) more)) (finished n)) (o .1)
-        ∙ ap Err (unfit-same h name (o .0) f (o .2) u))
+      ∙ ap (λ x. andThen (andThen (andThen x (λ e. Ok (opened s name e))) (λ t. runs t (p + length (spelling (start name))) more)) (finished n)) (o .1)
+      ∙ ap Err (unfit-same h name (o .0) f (o .2) u))
       (entering-cases h s m name l)
   unfit-ends name more rest f l (inr e) u =
       let p : ℕ = length (written h) in
       ⊎-elim (λ o. absurd (fit-not-unfit h name f (o .1) u))
       (λ o. ap (λ r. andThen (runs s p r) (finished n)) e ∙ ap (λ x. andThen x (finished n)) (runs-tag s p (empty name) more l)
-        ∙ ap (λ x. andThen (andThen (andThen x (λ e. Ok (leaf s p name e))) (λ t. runs t (p + length (spelling (empty name))) more)) (finished n)) (o .1)
-        ∙ ap Err (unfit-same h name (o .0) f (o .2) u))
+      ∙ ap (λ x. andThen (andThen (andThen x (λ e. Ok (leaf s p name e))) (λ t. runs t (p + length (spelling (empty name))) more)) (finished n)) (o .1)
+      ∙ ap Err (unfit-same h name (o .0) f (o .2) u))
       (entering-cases h s m name l)
 
   wrong-ends : (rest : List ℕ) (f : Fault) → n ≡ length (written h ++ rest) → Wrong h rest f → Ends rest f
@@ -381,7 +388,7 @@ module _ (h : History) (s : State) (m : Matches h s) (n : ℕ) where
       let p : ℕ = length (written h) in
       ⊎-elim (λ o. absurd (ne (o .2)))
       (λ o. ap (λ r. andThen (runs s p r) (finished n)) e ∙ ap (λ x. andThen x (finished n)) (runs-tag s p (end name) more l)
-        ∙ ap (λ x. andThen (andThen x (λ t. runs t (p + length (spelling (end name))) more)) (finished n)) (o .0) ∙ ap Err (sym is))
+      ∙ ap (λ x. andThen (andThen x (λ t. runs t (p + length (spelling (end name))) more)) (finished n)) (o .0) ∙ ap Err (sym is))
       (closing-cases h (s .elements) (s .names) (s .opens) name m)
   wrong-ends rest f len (unfit name more l e u) = unfit-ends name more rest f l e u
   wrong-ends rest f len (missing e c is) =

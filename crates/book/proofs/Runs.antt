@@ -57,17 +57,19 @@ module _ (bs : List ℕ) (p : ℕ) (s : State) (h : Sofar bs p s) where
   -- one item more
   one : (i : Item) → p ≤ length bs → lex p (drop p bs) ≡ Ok (Some i)
       → (k : ℕ) × (length bs - (p + length (spelling i)) ≤ k)
-        × (run (length bs) initial 0 bs ≡ andThen (step s p i) (λ t. run k t (p + length (spelling i)) (drop (p + length (spelling i)) bs)))
+      × (run (length bs) initial 0 bs ≡ andThen (step s p i) (λ t. run k t (p + length (spelling i)) (drop (p + length (spelling i)) bs)))
   one i l e = go (h .fuel) (h .enough) (h .same)
     where
       go : (m : ℕ) → length bs - p ≤ m → run m s p (drop p bs) ≡ run (length bs) initial 0 bs
           → (k : ℕ) × (length bs - (p + length (spelling i)) ≤ k)
-            × (run (length bs) initial 0 bs ≡ andThen (step s p i) (λ t. run k t (p + length (spelling i)) (drop (p + length (spelling i)) bs)))
+          × (run (length bs) initial 0 bs ≡ andThen (step s p i) (λ t. run k t (p + length (spelling i)) (drop (p + length (spelling i)) bs)))
       go zero enough same = let w = item-within i l e in absurd (omega (arith, w .1))
       go (suc k) enough same =
-          let w = item-within i l e in
-          (k, omega (arith, w .0),
-           sym same ∙ run-item k s p (drop p bs) i e ∙ (λ j. andThen (step s p i) (λ t. run k t (p + length (spelling i)) (drop-drop (length (spelling i)) p bs j))))
+          let w = item-within i l e in (
+            k,
+            omega (arith, w .0),
+            sym same ∙ run-item k s p (drop p bs) i e ∙ (λ j. andThen (step s p i) (λ t. run k t (p + length (spelling i)) (drop-drop (length (spelling i)) p bs j))),
+          )
 
   pub one-more : (i : Item) (t : State) → p ≤ length bs → lex p (drop p bs) ≡ Ok (Some i) → step s p i ≡ Ok t → Sofar bs (p + length (spelling i)) t
   one-more i t l e st =

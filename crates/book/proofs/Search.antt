@@ -72,4 +72,4 @@ pub found-at : (names : List (RefT (List ℕ))) (x : List ℕ) (a : ℕ) (d : Re
     → r ≡ sameBytes (getD names a d .now) x → r ≡ true → a ≡ position (bytesOf names) x
 found-at names x a d r different l e same =
     sym (position-at (bytesOf names) x a different (omega (arith, length-map names (λ (n : RefT (List ℕ)). n .now)))
-      (getD-map (λ (n : RefT (List ℕ)). n .now) names a d [] l ∙ sameBytes-decides (getD names a d .now) x .0 (sym e ∙ same)))
+    (getD-map (λ (n : RefT (List ℕ)). n .now) names a d [] l ∙ sameBytes-decides (getD names a d .now) x .0 (sym e ∙ same)))

@@ -142,9 +142,18 @@ not-nil o os e = let z : suc (length os) ≡ 0 = ap (λ l. length l) e in omega 
 
 -- the text has ended
 ends : (es : List Element) (names : List (List ℕ)) (os : List OpenElement) (p : ℕ) → let s : State = record { elements = es; names = names; opens = os } in Sane s → os ≡ [] → 0 < length es → Told s p [] s
-ends es names [] p h e some = record
-  { tail = none; lawful = tt; text = refl; elements = sym (append-nil es); names = refl; shallow = tt; blank = λ _. tt; single = λ z. absurd (omega arith)
-  ; few = h .few; count = h .names }
+ends es names [] p h e some = record {
+  tail = none;
+  lawful = tt;
+  text = refl;
+  elements = sym (append-nil es);
+  names = refl;
+  shallow = tt;
+  blank = λ _. tt;
+  single = λ z. absurd (omega arith);
+  few = h .few;
+  count = h .names;
+}
 ends es names (o ∷ os) p h e some = absurd (not-nil o os e)
 
 -- a byte of text
@@ -168,17 +177,18 @@ told-byte s p b bs t tb calm h =
     let pre = byte-prepends b p (length os) in
     let n = over-nodes (byte b) p (b ∷ []) [] os (h .tail) pre in
     let f = over-fill (byte b) p (b ∷ []) [] (s .elements) os (h .tail) pre in
-    record
-      { tail = over os (byte b) (h .tail)
-      ; lawful = lawful-over os (byte b) (h .tail) (λ c l. (tb, l)) (h .lawful)
-      ; text = ap (λ l. b ∷ l) (h .text) ∙ sym (over-text (byte b) p (b ∷ []) [] os (h .tail) pre)
-      ; elements = h .elements ∙ (λ i. sym f i ++ numbered (s .names) (sym n i))
-      ; names = h .names ∙ ap (named (s .names)) (sym n)
-      ; shallow = subst Shallow (sym n) (h .shallow)
-      ; blank = λ z. blank-byte os b (h .tail) calm (h .blank z)
-      ; single = λ z. single-byte os b (h .tail) calm (h .single z)
-      ; few = h .few
-      ; count = h .count }
+    record {
+      tail = over os (byte b) (h .tail);
+      lawful = lawful-over os (byte b) (h .tail) (λ c l. (tb, l)) (h .lawful);
+      text = ap (λ l. b ∷ l) (h .text) ∙ sym (over-text (byte b) p (b ∷ []) [] os (h .tail) pre);
+      elements = h .elements ∙ (λ i. sym f i ++ numbered (s .names) (sym n i));
+      names = h .names ∙ ap (named (s .names)) (sym n);
+      shallow = subst Shallow (sym n) (h .shallow);
+      blank = λ z. blank-byte os b (h .tail) calm (h .blank z);
+      single = λ z. single-byte os b (h .tail) calm (h .single z);
+      few = h .few;
+      count = h .count;
+    }
 
 -- An element begins.
 
@@ -211,18 +221,20 @@ module _ (s : State) (p : ℕ) (name : List ℕ) (h : Sane s) (e : Element) (n :
   sane-opened =
       let l = length-append (s .elements) (e ∷ []) in
       let lt : length (s .elements) < length (s .elements ++ e ∷ []) = omega arith in
-      record
-        { below = (lt, below-more (length (s .elements)) (length (s .elements ++ e ∷ [])) (s .opens) (omega arith) (h .below))
-        ; few = omega (arith, n .allowed-here .few)
-        ; names = few-names (s .names) name (h .names) (n .allowed-here .names) }
+      record {
+        below = (lt, below-more (length (s .elements)) (length (s .elements ++ e ∷ [])) (s .opens) (omega arith) (h .below));
+        few = omega (arith, n .allowed-here .few);
+        names = few-names (s .names) name (h .names) (n .allowed-here .names);
+      }
 
   sane-leaf : Sane (leaf s p name e)
   sane-leaf =
       let l = length-append (s .elements) (ended e (p + 1 + length name) ∷ []) in
-      record
-        { below = below-more (length (s .elements)) _ (s .opens) (omega arith) (h .below)
-        ; few = omega (arith, n .allowed-here .few)
-        ; names = few-names (s .names) name (h .names) (n .allowed-here .names) }
+      record {
+        below = below-more (length (s .elements)) _ (s .opens) (omega arith) (h .below);
+        few = omega (arith, n .allowed-here .few);
+        names = few-names (s .names) name (h .names) (n .allowed-here .names);
+      }
 
 -- only the first element stands outside
 outer-element : (n : ℕ) (os : List OpenElement) (f : Content → Content) (t : Tail os) → ((c : Content) → Blank c → Single (f c)) → Below n os
@@ -245,34 +257,36 @@ told-bare s p name rest t law sane en h =
     let f = over-fill (bare name) p (spelling (empty name)) (node ∷ []) es os (h .tail) pre in
     let len = length-append es (y ∷ []) in
     let out = outer-element (length es) os (bare name) (h .tail) (λ c b. b) (sane .below) (en .allowed-here .free) (h .blank (omega arith)) in
-    record
-      { tail = over os (bare name) (h .tail)
-      ; lawful = lawful-over os (bare name) (h .tail) (λ c l. (law, l)) (h .lawful)
-      ; text = ap (λ l. spelling (empty name) ++ l) (h .text) ∙ sym (over-text (bare name) p (spelling (empty name)) (node ∷ []) os (h .tail) pre)
-      ; elements =
+    record {
+      tail = over os (bare name) (h .tail);
+      lawful = lawful-over os (bare name) (h .tail) (λ c l. (law, l)) (h .lawful);
+      text = ap (λ l. spelling (empty name) ++ l) (h .text) ∙ sym (over-text (bare name) p (spelling (empty name)) (node ∷ []) os (h .tail) pre);
+      elements =
           h .elements
           ∙ ap (λ l. l ++ numbered (intern (s .names) name) (tailNodes os q (h .tail))) (fill-push es y os q (h .tail) (sane .below))
           ∙ append-assoc (fill es os q (h .tail)) (y ∷ []) (numbered (intern (s .names) name) (tailNodes os q (h .tail)))
-          ∙ (λ i. sym f i ++ numbered (s .names) (sym n i))
-      ; names = h .names ∙ ap (named (s .names)) (sym n)
-      ; shallow = subst Shallow (sym n) (en .allowed-here .level, h .shallow)
-      ; blank = out .0
-      ; single = out .1
-      ; few = h .few
-      ; count = h .count }
+          ∙ (λ i. sym f i ++ numbered (s .names) (sym n i));
+      names = h .names ∙ ap (named (s .names)) (sym n);
+      shallow = subst Shallow (sym n) (en .allowed-here .level, h .shallow);
+      blank = out .0;
+      single = out .1;
+      few = h .few;
+      count = h .count;
+    }
 
 full-prepends : (name : List ℕ) (inner : Content) (p level : ℕ) →
     let from : ℕ = p + length (spelling (start name)) in
     Prepends (full name inner) p level (spelling (start name) ++ (spell inner ++ spelling (end name)))
-      (record { start = p; end = from + length (spell inner); level = level; name = name } ∷ nodesAt from (suc level) inner)
+    (record { start = p; end = from + length (spell inner); level = level; name = name } ∷ nodesAt from (suc level) inner)
 full-prepends name inner p level =
     let from : ℕ = p + length (spelling (start name)) in
     let x = length-append (spelling (start name)) (spell inner ++ spelling (end name)) in
     let y = length-append (spell inner) (spelling (end name)) in
     let z : from + length (spell inner) + length (spelling (end name)) ≡ p + length (spelling (start name) ++ (spell inner ++ spelling (end name))) = omega arith in
-    record
-      { text = λ c. sym (append-assoc (spelling (start name)) (spell inner ++ spelling (end name)) (spell c) ∙ ap (λ l. spelling (start name) ++ l) (append-assoc (spell inner) (spelling (end name)) (spell c)))
-      ; nodes = λ c. ap (λ q. record { start = p; end = from + length (spell inner); level = level; name = name } ∷ nodesAt from (suc level) inner ++ nodesAt q level c) z }
+    record {
+      text = λ c. sym (append-assoc (spelling (start name)) (spell inner ++ spelling (end name)) (spell c) ∙ ap (λ l. spelling (start name) ++ l) (append-assoc (spell inner) (spelling (end name)) (spell c)));
+      nodes = λ c. ap (λ q. record { start = p; end = from + length (spell inner); level = level; name = name } ∷ nodesAt from (suc level) inner ++ nodesAt q level c) z;
+    }
 
 told-full : (s : State) (p : ℕ) (name rest : List ℕ) (t : State) → LawfulName name → Sane s → Entered s p name (begun s p name)
     → Told (opened s name (begun s p name)) (p + length (spelling (start name))) rest t → Told s p (spelling (start name) ++ rest) t
@@ -294,30 +308,31 @@ told-full s p name rest t law sane en h =
     let b = length-append (spell inner) (spelling (end name)) in
     let z : p + length spelt ≡ q = omega arith in
     let n : tailNodes os p (over os (full name inner) more) ≡ ns ++ tailNodes os q more =
-        over-nodes (full name inner) p spelt ns os more pre ∙ ap (λ k. ns ++ tailNodes os k more) z in
+    over-nodes (full name inner) p spelt ns os more pre ∙ ap (λ k. ns ++ tailNodes os k more) z in
     let f : fill es os p (over os (full name inner) more) ≡ fill es os q more =
-        over-fill (full name inner) p spelt ns es os more pre ∙ ap (λ k. fill es os k more) z in
+    over-fill (full name inner) p spelt ns es os more pre ∙ ap (λ k. fill es os k more) z in
     let len = length-append es (e ∷ []) in
     let out = outer-element (length es) os (full name inner) more (λ c b. b) (sane .below) (en .allowed-here .free) (h .blank (omega arith)) in
-    record
-      { tail = over os (full name inner) more
-      ; lawful = lawful-over os (full name inner) more (λ c l. (law, h .lawful .0, l)) (h .lawful .1)
-      ; text =
+    record {
+      tail = over os (full name inner) more;
+      lawful = lawful-over os (full name inner) more (λ c l. (law, h .lawful .0, l)) (h .lawful .1);
+      text =
           ap (λ l. spelling (start name) ++ l) (h .text ∙ sym (append-assoc (spell inner) (spelling (end name)) (tailText os more)))
           ∙ sym (append-assoc (spelling (start name)) (spell inner ++ spelling (end name)) (tailText os more))
-          ∙ sym (over-text (full name inner) p spelt ns os more pre)
-      ; elements =
+          ∙ sym (over-text (full name inner) p spelt ns os more pre);
+      elements =
           h .elements
           ∙ ap (λ l. fill l os q more ++ numbered (intern (s .names) name) (is ++ tailNodes os q more)) (set-append-seam es e [] y)
           ∙ ap (λ l. l ++ numbered (intern (s .names) name) (is ++ tailNodes os q more)) (fill-push es y os q more (sane .below))
           ∙ append-assoc (fill es os q more) (y ∷ []) (numbered (intern (s .names) name) (is ++ tailNodes os q more))
-          ∙ (λ i. sym f i ++ numbered (s .names) (sym n i))
-      ; names = h .names ∙ ap (named (s .names)) (sym n)
-      ; shallow = subst Shallow (sym n) (en .allowed-here .level, h .shallow)
-      ; blank = out .0
-      ; single = out .1
-      ; few = h .few
-      ; count = h .count }
+          ∙ (λ i. sym f i ++ numbered (s .names) (sym n i));
+      names = h .names ∙ ap (named (s .names)) (sym n);
+      shallow = subst Shallow (sym n) (en .allowed-here .level, h .shallow);
+      blank = out .0;
+      single = out .1;
+      few = h .few;
+      count = h .count;
+    }
 
 -- An element ends.
 
@@ -328,17 +343,18 @@ told-end es names o os p rest t h =
     let z : p ≡ p + 0 = omega arith in
     let k : ℕ = length (spelling (end (o .name))) in
     let len = length-set es (o .number) (ended (o .element) p) in
-    record
-      { tail = (none, h .tail)
-      ; lawful = (tt, h .lawful)
-      ; text = ap (λ l. spelling (end (o .name)) ++ l) (h .text)
-      ; elements = h .elements ∙ (λ i. fill (set es (o .number) (ended (o .element) (z i))) os (z i + k) (h .tail) ++ numbered names (tailNodes os (z i + k) (h .tail)))
-      ; names = h .names ∙ ap (λ q. named names (tailNodes os (q + k) (h .tail))) z
-      ; shallow = subst (λ q. Shallow (tailNodes os (q + k) (h .tail))) z (h .shallow)
-      ; blank = λ l. h .blank (omega arith)
-      ; single = λ l. h .single (omega arith)
-      ; few = h .few
-      ; count = h .count }
+    record {
+      tail = (none, h .tail);
+      lawful = (tt, h .lawful);
+      text = ap (λ l. spelling (end (o .name)) ++ l) (h .text);
+      elements = h .elements ∙ (λ i. fill (set es (o .number) (ended (o .element) (z i))) os (z i + k) (h .tail) ++ numbered names (tailNodes os (z i + k) (h .tail)));
+      names = h .names ∙ ap (λ q. named names (tailNodes os (q + k) (h .tail))) z;
+      shallow = subst (λ q. Shallow (tailNodes os (q + k) (h .tail))) z (h .shallow);
+      blank = λ l. h .blank (omega arith);
+      single = λ l. h .single (omega arith);
+      few = h .few;
+      count = h .count;
+    }
 
 -- Whole runs.
 
@@ -353,14 +369,14 @@ module _ (t : State) (is-closed : t .opens ≡ []) (some : 0 < length (t .elemen
   closes k ih es names (o ∷ os) p n rest l h u e r =
       ⊎-elim
       (λ (q : sameBytes (o .name) n ≡ true).
-        let v : State = record { elements = set es (o .number) (ended (o .element) p); names = names; opens = os } in
-        let same : v ≡ u = let w : Ok v ≡ Ok u = sym (cond-true _ _ _ q) ∙ e in cc in
-        let name : o .name ≡ n = sameBytes-decides (o .name) n .0 q in
-        let len = length-set es (o .number) (ended (o .element) p) in
-        let sane : Sane v = record { below = subst (λ m. Below m os) (sym len) (h .below .1); few = omega (arith, h .few); names = h .names } in
-        subst (λ m. Told (record { elements = es; names = names; opens = o ∷ os }) p (spelling (end m) ++ rest) t) name
-        (told-end es names o os p rest t
-          (ih v (p + length (spelling (end (o .name)))) rest l sane ((λ i. runs (same i) (p + length (spelling (end (name i)))) rest) ∙ r))))
+      let v : State = record { elements = set es (o .number) (ended (o .element) p); names = names; opens = os } in
+      let same : v ≡ u = let w : Ok v ≡ Ok u = sym (cond-true _ _ _ q) ∙ e in cc in
+      let name : o .name ≡ n = sameBytes-decides (o .name) n .0 q in
+      let len = length-set es (o .number) (ended (o .element) p) in
+      let sane : Sane v = record { below = subst (λ m. Below m os) (sym len) (h .below .1); few = omega (arith, h .few); names = h .names } in
+      subst (λ m. Told (record { elements = es; names = names; opens = o ∷ os }) p (spelling (end m) ++ rest) t) name
+      (told-end es names o os p rest t
+      (ih v (p + length (spelling (end (o .name)))) rest l sane ((λ i. runs (same i) (p + length (spelling (end (name i)))) rest) ∙ r))))
       (λ (q : sameBytes (o .name) n ≡ false). absurd (ok-or-err u _ (sym (cond-false _ _ _ q) ∙ e)))
       (cases-bool (sameBytes (o .name) n))
 
@@ -399,8 +415,8 @@ module _ (t : State) (is-closed : t .opens ≡ []) (some : 0 < length (t .elemen
       let go : Calm s b → Told s p (b ∷ bs) t = λ calm. told-byte s p b bs t tb calm (ih s (p + 1) bs len h (sym (runs-byte s p b bs tb calm) ∙ r)) in
       ⊎-elim
       (λ (o : eqb (length (s .opens)) 0 ≡ true).
-        ⊎-elim (λ (w : blankByte b ≡ true). go (inr w))
-        (λ (w : blankByte b ≡ false). absurd (ok-or-err t _ (sym (runs-stray s p b bs tb o w) ∙ r))) (cases-bool (blankByte b)))
+      ⊎-elim (λ (w : blankByte b ≡ true). go (inr w))
+      (λ (w : blankByte b ≡ false). absurd (ok-or-err t _ (sym (runs-stray s p b bs tb o w) ∙ r))) (cases-bool (blankByte b)))
       (λ (o : eqb (length (s .opens)) 0 ≡ false). go (inl o))
       (cases-bool (eqb (length (s .opens)) 0))
 
@@ -408,7 +424,7 @@ module _ (t : State) (is-closed : t .opens ≡ []) (some : 0 < length (t .elemen
   angles k ih s p bs len h r =
       ⊎-elim
       (λ (f : Front-tag s p (60 ∷ bs)).
-        subst (λ l. Told s p l t) (sym (f .spelled)) (tags k ih s p (f .item) (f .rest) (f .lawful) (omega (arith, f .shorter)) h (ap (runs s p) (sym (f .spelled)) ∙ r)))
+      subst (λ l. Told s p l t) (sym (f .spelled)) (tags k ih s p (f .item) (f .rest) (f .lawful) (omega (arith, f .shorter)) h (ap (runs s p) (sym (f .spelled)) ∙ r)))
       (λ f. absurd (ok-or-err t (f .0) (sym (runs-fault s p 60 bs (f .0) (f .1)) ∙ r)))
       (front s p bs)
 
@@ -420,8 +436,8 @@ module _ (t : State) (is-closed : t .opens ≡ []) (some : 0 < length (t .elemen
   contains (suc k) s p (b ∷ bs) len h r =
       ⊎-elim
       (λ (e : eqb b 60 ≡ true).
-        let z : b ≡ 60 = eqb-true b 60 e in
-        subst (λ x. Told s p (x ∷ bs) t) (sym z) (angles k (contains k) s p bs (omega arith) h (ap (λ x. runs s p (x ∷ bs)) (sym z) ∙ r)))
+      let z : b ≡ 60 = eqb-true b 60 e in
+      subst (λ x. Told s p (x ∷ bs) t) (sym z) (angles k (contains k) s p bs (omega arith) h (ap (λ x. runs s p (x ∷ bs)) (sym z) ∙ r)))
       (λ (e : eqb b 60 ≡ false). texts k (contains k) s p b bs e (omega arith) h r)
       (cases-bool (eqb b 60))
 
@@ -435,28 +451,29 @@ finished-ok : (n : ℕ) (s : State) (b : Tree) → finished n s ≡ Ok b → (0 
 finished-ok n s b e =
     ⊎-elim (λ (z : eqb (length (s .elements)) 0 ≡ true). absurd (ok-or-err b _ (sym (cond-true _ _ _ z) ∙ e)))
     (λ (z : eqb (length (s .elements)) 0 ≡ false).
-      let ne = eqb-false _ _ z in
-      let c = closed-ok s (s .opens) b (sym (cond-false _ _ _ z) ∙ e) in
-      let lt : 0 < length (s .elements) = omega arith in
-      (lt, c .0, c .1))
+    let ne = eqb-false _ _ z in
+    let c = closed-ok s (s .opens) b (sym (cond-false _ _ _ z) ∙ e) in
+    let lt : 0 < length (s .elements) = omega arith in
+    (lt, c .0, c .1))
     (cases-bool (eqb (length (s .elements)) 0))
 
 pub sound : (bs : List ℕ) (b : Tree) → readBook bs ≡ Ok b → (ns : List Node) × Document bs ns × Within bs ns × (b ≡ indexed ns)
 unfolding Contains
 sound bs b e =
     ⊎-elim (λ (z : leb (length bs) 16777216 ≡ true).
-      let x = then-ok (runs initial 0 bs) (finished (length bs)) b (sym (book-is bs (leb-true _ _ z)) ∙ e) in
-      let t : State = x .0 in
-      let f = finished-ok (length bs) t b (x .2) in
-      let s : Sane initial = record { below = tt; few = omega arith; names = omega arith } in
-      let h : Told initial 0 bs t = contains t (f .1) (f .0) (length bs) initial 0 bs (omega arith) s (x .1) in
-      let ns : List Node = nodesAt 0 0 (h .tail) in
-      let count : length (numbered [] ns) ≤ 65535 = subst (λ l. length l ≤ 65535) (h .elements) (h .few) in
-      let few : length ns ≤ 65535 = omega (arith, numbered-length [] ns) in
-      let names : length (named [] ns) ≤ 1024 = subst (λ l. length l ≤ 1024) (h .names) (h .count) in
-      (ns,
-       record { row = h .tail; lawful = h .lawful; single = h .single refl; spelled = h .text; elements = refl },
-       record { short = leb-true _ _ z; shallow = h .shallow; few = few; names = names },
-       sym (f .2) ∙ (λ i. record { elements = h .elements i; names = h .names i })))
+    let x = then-ok (runs initial 0 bs) (finished (length bs)) b (sym (book-is bs (leb-true _ _ z)) ∙ e) in
+    let t : State = x .0 in
+    let f = finished-ok (length bs) t b (x .2) in
+    let s : Sane initial = record { below = tt; few = omega arith; names = omega arith } in
+    let h : Told initial 0 bs t = contains t (f .1) (f .0) (length bs) initial 0 bs (omega arith) s (x .1) in
+    let ns : List Node = nodesAt 0 0 (h .tail) in
+    let count : length (numbered [] ns) ≤ 65535 = subst (λ l. length l ≤ 65535) (h .elements) (h .few) in
+    let few : length ns ≤ 65535 = omega (arith, numbered-length [] ns) in
+    let names : length (named [] ns) ≤ 1024 = subst (λ l. length l ≤ 1024) (h .names) (h .count) in (
+      ns,
+      record { row = h .tail; lawful = h .lawful; single = h .single refl; spelled = h .text; elements = refl },
+      record { short = leb-true _ _ z; shallow = h .shallow; few = few; names = names },
+      sym (f .2) ∙ (λ i. record { elements = h .elements i; names = h .names i }),
+    ))
     (λ (z : leb (length bs) 16777216 ≡ false). absurd (ok-or-err b _ (sym (too-long bs _ (cond-false _ _ _ z)) ∙ e)))
     (cases-bool (leb (length bs) 16777216))

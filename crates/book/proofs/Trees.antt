@@ -55,23 +55,24 @@ module _ (ns : List Node) (q : ℕ) (f : Forest 0 0 q ns) (a : Around ns) (s : S
 
   book-by : BookOf (length ns) r
   unfolding r nobody
-  book-by = record
-    { some = around-some ns a
-    ; few = few
-    ; each = λ i h. let p = all-getD (Span 0 q) ns i nobody h (f .span) in (p .1, omega (arith, p .2), shallow-at ns nobody i s h)
-    ; rising = λ i j h k. pairs-at Ordered ns nobody i j (f .pairs) h k .0
-    ; apart = λ i j h k ne.
+  book-by = record {
+    some = around-some ns a;
+    few = few;
+    each = λ i h. let p = all-getD (Span 0 q) ns i nobody h (f .span) in (p .1, omega (arith, p .2), shallow-at ns nobody i s h);
+    rising = λ i j h k. pairs-at Ordered ns nobody i j (f .pairs) h k .0;
+    apart = λ i j h k ne.
         ⊎-elim (λ (e : i ≡ j). absurd (ne e))
         (⊎-elim
-          (λ (o : i < j). let p = pairs-at Ordered ns nobody i j (f .pairs) o k in ⊎-elim (λ c. inl (p .0, c)) (λ c. inr (inr (inl c))) (p .1))
-          (λ (o : j < i). let p = pairs-at Ordered ns nobody j i (f .pairs) o h in ⊎-elim (λ c. inr (inl (p .0, c))) (λ c. inr (inr (inr c))) (p .1)))
-        (cases-order i j)
-    ; counted = λ i h.
+        (λ (o : i < j). let p = pairs-at Ordered ns nobody i j (f .pairs) o k in ⊎-elim (λ c. inl (p .0, c)) (λ c. inr (inr (inl c))) (p .1))
+        (λ (o : j < i). let p = pairs-at Ordered ns nobody j i (f .pairs) o h in ⊎-elim (λ c. inr (inl (p .0, c))) (λ c. inr (inr (inr c))) (p .1)))
+        (cases-order i j);
+    counted = λ i h.
         let v : Node = getD ns i nobody in
         let e : v .level ≡ 0 + countIn ns v = all-getD (λ v. v .level ≡ 0 + countIn ns v) ns i nobody h (f .levels) in
         let z : 0 + countIn ns v ≡ countIn ns v = omega arith in
-        e ∙ z ∙ count-list ns v nobody
-    ; first = λ i h k. around-at ns nobody i a h k }
+        e ∙ z ∙ count-list ns v nobody;
+    first = λ i h k. around-at ns nobody i a h k;
+  }
 
   as-list : LawfulBook (map regionOfNode ns)
   unfolding r nobody
@@ -106,12 +107,13 @@ module _ (text : List ℕ) (ns : List Node) (d : Document text ns) (w : Within t
   lawful-tree =
       let a : Around ns = subst Around (sym (d .elements)) (single-around (d .row) 0 (d .single)) in
       let l : All (λ (n : Node). LawfulName (n .name)) ns = subst (All (λ (n : Node). LawfulName (n .name))) (sym (d .elements)) (row-names (d .row) 0 0 (d .lawful)) in
-      record
-        { regions = subst LawfulBook (sym (same-regions [] ns)) (as-list ns (length text) forest a (w .shallow) (w .few) (w .short))
-        ; few = w .names
-        ; lawful = λ k h. all-getD LawfulName (named [] ns) k [] h (named-all LawfulName [] ns tt l)
-        ; different = named-different [] ns (λ j k h i e. absurd (omega arith))
-        ; used = uses [] ns }
+      record {
+        regions = subst LawfulBook (sym (same-regions [] ns)) (as-list ns (length text) forest a (w .shallow) (w .few) (w .short));
+        few = w .names;
+        lawful = λ k h. all-getD LawfulName (named [] ns) k [] h (named-all LawfulName [] ns tt l);
+        different = named-different [] ns (λ j k h i e. absurd (omega arith));
+        used = uses [] ns;
+      }
 
 pub trees-are-lawful : Trees-are-lawful
 trees-are-lawful text t e =

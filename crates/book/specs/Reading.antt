@@ -85,8 +85,8 @@ leaf s p name e = record {
 abbrev pub close : State → List OpenElement → ℕ → List ℕ → Result State Fault
 close s [] p name = Err (fault WrongEndTag p)
 close s (o ∷ os) p name = cond (sameBytes (o .name) name)
-  (Ok (record { elements = set (s .elements) (o .number) (ended (o .element) p); names = s .names; opens = os }))
-  (Err (fault WrongEndTag p))
+    (Ok (record { elements = set (s .elements) (o .number) (ended (o .element) p); names = s .names; opens = os }))
+    (Err (fault WrongEndTag p))
 
 -- a run at p holds only blanks
 abbrev pub blanksOnly : ℕ → List ℕ → Result (Unit {0}) Fault

@@ -53,7 +53,10 @@ impl<'t> Names<'t> {
     pub(crate) fn new(heap: Global) -> Self
         ensures { λ r. ⌜ vec-items (r .list) ≡ [] ⌝ }
     {
-        Names { list: Vec::new(heap), slots: [0; SLOTS] }
+        Names {
+            list: Vec::new(heap),
+            slots: [0; SLOTS],
+        }
     }
 
     // The number of this name, or how many names there are where it is a new one. A name that is there is found through the slots; a

@@ -30,8 +30,11 @@ use tree::Element;
 
 // The limits of a book text.
 pub const MOST_BYTES: usize = 16_777_216;
+
 pub const MOST_OPEN: usize = 64;
+
 pub const MOST_ELEMENTS: usize = 65_535;
+
 pub const MOST_NAMES: usize = 1024;
 
 fn fault(refusal: Refusal, place: usize) -> Fault
@@ -45,7 +48,11 @@ fn check_length(text: &[u8]) -> Result<(), Fault>
     ensures value { λ r. ⌜ r ≡ shortEnough (length (now (text .entry))) ⌝ }
     ensures short { λ r. ⌜ made r (λ _. length (now (text .entry)) ≤ 16777216) ⌝ }
 {
-    if text.len() > MOST_BYTES { Err(fault(Refusal::BookTooLong, MOST_BYTES)) } else { Ok(()) }
+    if text.len() > MOST_BYTES {
+        Err(fault(Refusal::BookTooLong, MOST_BYTES))
+    } else {
+        Ok(())
+    }
 }
 
 // Whether a further element may begin at `place`, with `opens` open elements and `count` elements before it; its name has this number.
@@ -71,7 +78,11 @@ fn check_blanks(run: &[u8], place: usize) -> Result<(), Fault>
     ensures { λ r. ⌜ r ≡ blanksOnly place (now (run .entry)) ⌝ }
 {
     let blanks = scan::run::<Blanks>(run);
-    if blanks == run.len() { Ok(()) } else { Err(fault(Refusal::Stray, place + blanks)) }
+    if blanks == run.len() {
+        Ok(())
+    } else {
+        Err(fault(Refusal::Stray, place + blanks))
+    }
 }
 
 // Where the element of an empty tag at `place` ends: at the `/` behind its name.
@@ -90,7 +101,13 @@ fn same_name(opened: &[u8], closed: &[u8]) -> bool
 }
 
 // The element of a tag at `place`, with its name's number; `opens` elements are open, and `count` come before it.
-fn admit<'t>(names: &mut Names<'t>, opens: usize, count: usize, name: &'t [u8], place: usize) -> Result<Element, Error>
+fn admit<'t>(
+    names: &mut Names<'t>,
+    opens: usize,
+    count: usize,
+    name: &'t [u8],
+    place: usize,
+) -> Result<Element, Error>
     requires different { ⌜ Different (bytesOf (vec-items (now names .list))) ⌝ }
     requires inside { ⌜ place ≤ 16777216 ⌝ }
     ensures element { λ r. ⌜ Answers (enter opens count (bytesOf (vec-items (now (names .entry) .list))) place (now (name .entry))) r (λ e. e) ⌝ }
@@ -101,7 +118,12 @@ fn admit<'t>(names: &mut Names<'t>, opens: usize, count: usize, name: &'t [u8], 
     if number == names.list.len() {
         names.push(name)?;
     }
-    Ok(Element { start: place as u32, end: 0, level: opens as u16, name: number as u16 })
+    Ok(Element {
+        start: place as u32,
+        end: 0,
+        level: opens as u16,
+        name: number as u16,
+    })
 }
 
 // An open element, whose end is still 0, with its number and the bytes of its name.
@@ -124,7 +146,11 @@ impl<'t> Reader<'t> {
     fn new(heap: Global) -> Self
         ensures { λ r. ⌜ stateOf r ≡ initial ⌝ }
     {
-        Reader { elements: Vec::new(heap), names: Names::new(heap), opens: Vec::new(heap) }
+        Reader {
+            elements: Vec::new(heap),
+            names: Names::new(heap),
+            opens: Vec::new(heap),
+        }
     }
 
     // A start tag: its element is open from here on.
@@ -137,7 +163,12 @@ impl<'t> Reader<'t> {
         let number = self.elements.len();
         let element = admit(&mut self.names, opens, number, name, place)?;
         self.elements.push(element)?;
-        self.opens.push(Open { number, element, name })?;
+        self.opens
+            .push(Open {
+                number,
+                element,
+                name,
+            })?;
         Ok(())
     }
 
@@ -150,7 +181,11 @@ impl<'t> Reader<'t> {
         let opens = self.opens.len();
         let number = self.elements.len();
         let element = admit(&mut self.names, opens, number, name, place)?;
-        self.elements.push(Element { end: slash_of(place, name), ..element })?;
+        self.elements
+            .push(Element {
+                end: slash_of(place, name),
+                ..element
+            })?;
         Ok(())
     }
 
@@ -166,7 +201,10 @@ impl<'t> Reader<'t> {
         if !same_name(open.name, name) {
             return Err(Error::Refused(fault(Refusal::WrongEndTag, place)));
         }
-        self.elements[open.number] = Element { end: place as u32, ..open.element };
+        self.elements[open.number] = Element {
+            end: place as u32,
+            ..open.element
+        };
         Ok(())
     }
 
@@ -203,7 +241,10 @@ impl<'t> Reader<'t> {
             return Err(Error::Refused(fault(Refusal::TopElement, len)));
         }
         match self.opens.last() {
-            Some(open) => Err(Error::Refused(fault(Refusal::Unclosed, open.element.start as usize))),
+            Some(open) => Err(Error::Refused(fault(
+                Refusal::Unclosed,
+                open.element.start as usize,
+            ))),
             None => Ok(()),
         }
     }
@@ -220,9 +261,16 @@ fn read_items<'t>(heap: Global, text: &'t [u8]) -> Result<Book<'t>, Error>
         reader.take(token)?;
     }
     reader.finish(text.len())?;
-    let Reader { elements, names, opens: _ } = reader;
+    let Reader {
+        elements,
+        names,
+        opens: _,
+    } = reader;
     let Names { list, slots: _ } = names;
-    Ok(Book { elements, names: list })
+    Ok(Book {
+        elements,
+        names: list,
+    })
 }
 
 // The elements and names of a book text, or the first refusal with its place.

@@ -43,9 +43,13 @@ bytes (suc m) [] = record { name = []; rest = []; is = refl; each = tt; stops = 
 bytes (suc m) (c ∷ cs) =
     let r = bytes m cs in
     ⊎-elim
-    (λ (e : nameByte c ≡ true). record
-      { name = c ∷ r .name; rest = r .rest; is = ap (λ l. c ∷ l) (r .is); each = (e, r .each)
-      ; stops = ⊎-elim (λ h. inl (ap suc h)) (λ h. inr (omega arith, h .1)) (r .stops) })
+    (λ (e : nameByte c ≡ true). record {
+      name = c ∷ r .name;
+      rest = r .rest;
+      is = ap (λ l. c ∷ l) (r .is);
+      each = (e, r .each);
+      stops = ⊎-elim (λ h. inl (ap suc h)) (λ h. inr (omega arith, h .1)) (r .stops);
+    })
     (λ (e : nameByte c ≡ false). record { name = []; rest = c ∷ cs; is = refl; each = tt; stops = inr (omega arith, e) })
     (cases-bool (nameByte c))
 
@@ -69,11 +73,11 @@ view [] = nothing refl
 view (c ∷ cs) =
     ⊎-elim
     (λ (f : nameFirst c ≡ true).
-      let r = bytes 31 cs in
-      let short : length (r .name) ≤ 31 = ⊎-elim (λ (h : length (r .name) ≡ 31). omega arith) (λ h. omega (arith, h .0)) (r .stops) in
-      view-rest (c ∷ cs) (c ∷ r .name) (r .rest) (ap (λ l. c ∷ l) (r .is))
-        (record { some = omega arith; short = omega arith; first = f; each = (first-is-byte c f, r .each) })
-        (⊎-elim (λ (h : length (r .name) ≡ 31). inl (ap suc h)) (λ h. inr (h .1)) (r .stops)))
+    let r = bytes 31 cs in
+    let short : length (r .name) ≤ 31 = ⊎-elim (λ (h : length (r .name) ≡ 31). omega arith) (λ h. omega (arith, h .0)) (r .stops) in
+    view-rest (c ∷ cs) (c ∷ r .name) (r .rest) (ap (λ l. c ∷ l) (r .is))
+    (record { some = omega arith; short = omega arith; first = f; each = (first-is-byte c f, r .each) })
+    (⊎-elim (λ (h : length (r .name) ≡ 31). inl (ap suc h)) (λ h. inr (h .1)) (r .stops)))
     (λ (f : nameFirst c ≡ false). nofirst c cs refl f)
     (cases-bool (nameFirst c))
 

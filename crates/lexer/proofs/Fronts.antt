@@ -43,7 +43,7 @@ module _ (bs : List ℕ) (n : ℕ) where
       let k : n + 3 ≡ suc (n + 1 + 1) = omega arith in
       ap (λ m. take m (60 ∷ bs)) k
       ∙ ap (λ l. 60 ∷ l)
-        (take-byte bs (n + 1) 62 e (omega arith) ∙ ap (λ l. l ++ 62 ∷ []) (take-byte bs n 47 s (omega arith)) ∙ append-assoc (take n bs) (47 ∷ []) (62 ∷ []))
+      (take-byte bs (n + 1) 62 e (omega arith) ∙ ap (λ l. l ++ 62 ∷ []) (take-byte bs n 47 s (omega arith)) ∙ append-assoc (take n bs) (47 ∷ []) (62 ∷ []))
 
 -- Names.
 
@@ -71,10 +71,10 @@ start-spelled : (p : ℕ) (bs : List ℕ) → Granted (Spelled (60 ∷ bs)) (sta
 start-spelled p bs =
     chain _ (nameAt (p + 1) bs) (startTail p bs) (name-size (p + 1) bs)
     (λ n h. either (eqb (getD bs n 0) 62) _ _ (λ e. grant _ (spelled-by _ (start (take n bs)) (n + 2) (start-front bs n (eqb-true _ _ e))))
-      (λ _. either (eqb (getD bs n 0) 47) _ _
-        (λ s. either (eqb (getD bs (n + 1) 0) 62) _ _
-          (λ e. grant _ (spelled-by _ (empty (take n bs)) (n + 3) (empty-front bs n (eqb-true _ _ s) (eqb-true _ _ e)))) (λ _. refuse _))
-        (λ _. refuse _)))
+    (λ _. either (eqb (getD bs n 0) 47) _ _
+    (λ s. either (eqb (getD bs (n + 1) 0) 62) _ _
+    (λ e. grant _ (spelled-by _ (empty (take n bs)) (n + 3) (empty-front bs n (eqb-true _ _ s) (eqb-true _ _ e)))) (λ _. refuse _))
+    (λ _. refuse _)))
 
 text-spelled : (bs : List ℕ) → Spelled bs (text (take (leading textByte bs) bs))
 text-spelled bs = (drop (leading textByte bs) bs, sym (take-append-drop (leading textByte bs) bs))
@@ -86,7 +86,7 @@ item-spelled p (b ∷ []) =
 item-spelled p (b ∷ c ∷ cs) =
     either (eqb b 60) _ _
     (λ e. subst (λ x. Granted (Spelled (x ∷ c ∷ cs)) (cond (eqb c 47) (endTag p cs) (startTag p (c ∷ cs)))) (sym (eqb-true b 60 e))
-      (either (eqb c 47) _ _ (λ f. subst (λ x. Granted (Spelled (60 ∷ x ∷ cs)) (endTag p cs)) (sym (eqb-true c 47 f)) (end-spelled p cs)) (λ _. start-spelled p (c ∷ cs))))
+    (either (eqb c 47) _ _ (λ f. subst (λ x. Granted (Spelled (60 ∷ x ∷ cs)) (endTag p cs)) (sym (eqb-true c 47 f)) (end-spelled p cs)) (λ _. start-spelled p (c ∷ cs))))
     (λ _. grant _ (text-spelled (b ∷ c ∷ cs)))
 
 -- an item has a byte or more, unless the text is at its end
@@ -97,11 +97,11 @@ pub item-some : (p b : ℕ) (bs : List ℕ) → Granted (λ i. 0 < length (spell
 item-some p b bs =
     either (eqb b 60) _ _
     (λ _. either (eqb (getD bs 0 0) 47) _ _
-      (λ _. chain _ (nameAt (p + 2) (drop 1 bs)) (endTail p (drop 1 bs)) (name-size (p + 2) (drop 1 bs))
-        (λ n h. either (eqb (getD (drop 1 bs) n 0) 62) _ _ (λ _. grant _ (omega arith)) (λ _. refuse _)))
-      (λ _. chain _ (nameAt (p + 1) bs) (startTail p bs) (name-size (p + 1) bs)
-        (λ n h. either (eqb (getD bs n 0) 62) _ _ (λ _. grant _ (omega arith))
-          (λ _. either (eqb (getD bs n 0) 47) _ _ (λ _. either (eqb (getD bs (n + 1) 0) 62) _ _ (λ _. grant _ (omega arith)) (λ _. refuse _)) (λ _. refuse _)))))
+    (λ _. chain _ (nameAt (p + 2) (drop 1 bs)) (endTail p (drop 1 bs)) (name-size (p + 2) (drop 1 bs))
+    (λ n h. either (eqb (getD (drop 1 bs) n 0) 62) _ _ (λ _. grant _ (omega arith)) (λ _. refuse _)))
+    (λ _. chain _ (nameAt (p + 1) bs) (startTail p bs) (name-size (p + 1) bs)
+    (λ n h. either (eqb (getD bs n 0) 62) _ _ (λ _. grant _ (omega arith))
+    (λ _. either (eqb (getD bs n 0) 47) _ _ (λ _. either (eqb (getD bs (n + 1) 0) 62) _ _ (λ _. grant _ (omega arith)) (λ _. refuse _)) (λ _. refuse _)))))
     (λ e. let s = some-text b bs e in grant _ (omega (arith, length-take (leading textByte (b ∷ bs)) (b ∷ bs), leading-le-length textByte (b ∷ bs))))
 
 -- what an item leaves of the text

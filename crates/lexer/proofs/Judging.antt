@@ -55,14 +55,14 @@ slash-front : (n : List ℕ) (c : ℕ) → LawfulName n → Overlong (60 ∷ n +
 slash-front n c l o =
     ⊎-elim
     (λ (e : 60 ∷ n ++ 47 ∷ [] ≡ 60 ∷ o .0).
-      let same : n ++ 47 ∷ [] ≡ o .0 = ap (drop 1) e in
-      let long : length n < length (o .0) = omega (arith, ap (λ l. length l) same, length-append n (47 ∷ [])) in
-      let at : getD (o .0) (length n) 0 ≡ 47 = ap (λ l. getD l (length n) 0) (sym same) ∙ getD-append-seam n 47 [] 0 in
-      true≢false (sym (all-getD (λ b. nameByte b ≡ true) (o .0) (length n) 0 long (o .1 .each)) ∙ ap nameByte at))
+    let same : n ++ 47 ∷ [] ≡ o .0 = ap (drop 1) e in
+    let long : length n < length (o .0) = omega (arith, ap (λ l. length l) same, length-append n (47 ∷ [])) in
+    let at : getD (o .0) (length n) 0 ≡ 47 = ap (λ l. getD l (length n) 0) (sym same) ∙ getD-append-seam n 47 [] 0 in
+    true≢false (sym (all-getD (λ b. nameByte b ≡ true) (o .0) (length n) 0 long (o .1 .each)) ∙ ap nameByte at))
     (λ (e : 60 ∷ n ++ 47 ∷ [] ≡ 60 ∷ 47 ∷ o .0).
-      let same : n ++ 47 ∷ [] ≡ 47 ∷ o .0 = ap (drop 1) e in
-      let at : getD n 0 0 ≡ 47 = sym (List·getD-append n (47 ∷ []) 0 0 (l .some)) ∙ ap (λ l. getD l 0 0) same in
-      true≢false (sym (l .first) ∙ ap nameFirst at))
+    let same : n ++ 47 ∷ [] ≡ 47 ∷ o .0 = ap (drop 1) e in
+    let at : getD n 0 0 ≡ 47 = sym (List·getD-append n (47 ∷ []) 0 0 (l .some)) ∙ ap (λ l. getD l 0 0) same in
+    true≢false (sym (l .first) ∙ ap nameFirst at))
     (o .4)
 
 long-at : (p : ℕ) (xs : List ℕ) (c : ℕ) (rest : List ℕ) (q : ℕ) → itemAt p (xs ++ c ∷ rest) ≡ Err (fault BookNameTooLong q) → Overlong xs c → q ≡ p + length xs → Judged (xs ++ c ∷ rest) p
@@ -84,12 +84,12 @@ judge-end p cs (cut l) = ends-at p (60 ∷ 47 ∷ cs) (p + 2 + length cs) (end-c
 judge-end p cs (full n c rest e l b) =
     subst (λ l. Judged (60 ∷ 47 ∷ l) p) (sym e)
     (⊎-elim
-      (λ (x : eqb c 62 ≡ true).
-        subst (λ y. Judged (60 ∷ 47 ∷ n ++ y ∷ rest) p) (sym (eqb-true c 62 x))
-        (subst (λ l. Judged (60 ∷ 47 ∷ l) p) (append-assoc n (62 ∷ []) rest) (tag-here p (end n) rest l)))
-      (λ (x : eqb c 62 ≡ false).
-        stray-at p (60 ∷ 47 ∷ n) c rest (p + 2 + length n) (λ more. end-bad p n l c more b x) (end n, l, 62, [], refl) (λ o. true≢false (sym (o .3) ∙ b)) (omega arith))
-      (cases-bool (eqb c 62)))
+    (λ (x : eqb c 62 ≡ true).
+    subst (λ y. Judged (60 ∷ 47 ∷ n ++ y ∷ rest) p) (sym (eqb-true c 62 x))
+    (subst (λ l. Judged (60 ∷ 47 ∷ l) p) (append-assoc n (62 ∷ []) rest) (tag-here p (end n) rest l)))
+    (λ (x : eqb c 62 ≡ false).
+    stray-at p (60 ∷ 47 ∷ n) c rest (p + 2 + length n) (λ more. end-bad p n l c more b x) (end n, l, 62, [], refl) (λ o. true≢false (sym (o .3) ∙ b)) (omega arith))
+    (cases-bool (eqb c 62)))
 
 judge-slash : (p : ℕ) (n rest : List ℕ) → LawfulName n → Judged (60 ∷ n ++ 47 ∷ rest) p
 judge-slash p n [] l =
@@ -100,12 +100,12 @@ judge-slash p n (d ∷ rest) l =
     let assoc : (more : List ℕ) → 60 ∷ n ++ 47 ∷ [] ++ d ∷ more ≡ 60 ∷ n ++ 47 ∷ d ∷ more = λ more. ap (λ r. 60 ∷ r) (append-assoc n (47 ∷ []) (d ∷ more)) in
     ⊎-elim
     (λ (x : eqb d 62 ≡ true).
-      subst (λ y. Judged (60 ∷ n ++ 47 ∷ y ∷ rest) p) (sym (eqb-true d 62 x))
-      (subst (λ l. Judged (60 ∷ l) p) (append-assoc n (47 ∷ 62 ∷ []) rest) (tag-here p (empty n) rest l)))
+    subst (λ y. Judged (60 ∷ n ++ 47 ∷ y ∷ rest) p) (sym (eqb-true d 62 x))
+    (subst (λ l. Judged (60 ∷ l) p) (append-assoc n (47 ∷ 62 ∷ []) rest) (tag-here p (empty n) rest l)))
     (λ (x : eqb d 62 ≡ false).
-      subst (λ l. Judged l p) (assoc rest)
-      (stray-at p (60 ∷ n ++ 47 ∷ []) d rest (p + 2 + length n) (λ more. ap (itemAt p) (assoc more) ∙ slash-bad p n l (d ∷ more) x)
-        (empty n, l, 62, [], ap (λ r. 60 ∷ r) (sym (append-assoc n (47 ∷ []) (62 ∷ [])))) (slash-front n d l) (omega arith)))
+    subst (λ l. Judged l p) (assoc rest)
+    (stray-at p (60 ∷ n ++ 47 ∷ []) d rest (p + 2 + length n) (λ more. ap (itemAt p) (assoc more) ∙ slash-bad p n l (d ∷ more) x)
+    (empty n, l, 62, [], ap (λ r. 60 ∷ r) (sym (append-assoc n (47 ∷ []) (62 ∷ [])))) (slash-front n d l) (omega arith)))
     (cases-bool (eqb d 62))
 
 judge-start : (p : ℕ) (cs : List ℕ) → eqb (getD cs 0 0) 47 ≡ false → View cs → Judged (60 ∷ cs) p
@@ -119,16 +119,16 @@ judge-start p cs s (cut l) = ends-at p (60 ∷ cs) (p + 1 + length cs) (start-cu
 judge-start p cs s (full n c rest e l b) =
     subst (λ l. Judged (60 ∷ l) p) (sym e)
     (⊎-elim
-      (λ (x : eqb c 62 ≡ true).
-        subst (λ y. Judged (60 ∷ n ++ y ∷ rest) p) (sym (eqb-true c 62 x))
-        (subst (λ l. Judged (60 ∷ l) p) (append-assoc n (62 ∷ []) rest) (tag-here p (start n) rest l)))
-      (λ (x : eqb c 62 ≡ false).
-        ⊎-elim
-        (λ (y : eqb c 47 ≡ true). subst (λ y. Judged (60 ∷ n ++ y ∷ rest) p) (sym (eqb-true c 47 y)) (judge-slash p n rest l))
-        (λ (y : eqb c 47 ≡ false).
-          stray-at p (60 ∷ n) c rest (p + 1 + length n) (λ more. start-bad p n l c more b x y) (start n, l, 62, [], refl) (λ o. true≢false (sym (o .3) ∙ b)) (omega arith))
-        (cases-bool (eqb c 47)))
-      (cases-bool (eqb c 62)))
+    (λ (x : eqb c 62 ≡ true).
+    subst (λ y. Judged (60 ∷ n ++ y ∷ rest) p) (sym (eqb-true c 62 x))
+    (subst (λ l. Judged (60 ∷ l) p) (append-assoc n (62 ∷ []) rest) (tag-here p (start n) rest l)))
+    (λ (x : eqb c 62 ≡ false).
+    ⊎-elim
+    (λ (y : eqb c 47 ≡ true). subst (λ y. Judged (60 ∷ n ++ y ∷ rest) p) (sym (eqb-true c 47 y)) (judge-slash p n rest l))
+    (λ (y : eqb c 47 ≡ false).
+    stray-at p (60 ∷ n) c rest (p + 1 + length n) (λ more. start-bad p n l c more b x y) (start n, l, 62, [], refl) (λ o. true≢false (sym (o .3) ∙ b)) (omega arith))
+    (cases-bool (eqb c 47)))
+    (cases-bool (eqb c 62)))
 
 judged : (p : ℕ) (bs : List ℕ) → Judged (60 ∷ bs) p
 judged p [] = judge-start p [] refl (view [])
@@ -167,9 +167,9 @@ too-early : (bs xs ys t : List ℕ) → CutAt bs xs → bs ≡ ys ++ t → Fits 
 too-early bs xs ys t a e f h =
     ⊎-elim (λ (w : bs ≡ xs). omega (arith, ap (λ l. length l) (sym w ∙ e), length-append ys t))
     (λ w.
-      let c : ℕ = w .0 in
-      let r = front-of (xs ++ c ∷ []) ys (w .1) t (append-assoc xs (c ∷ []) (w .1) ∙ sym (w .2) ∙ e) (omega (arith, length-append xs (c ∷ []))) in
-      w .3 (f .0, f .1, r .0 ++ f .2, f .3 ∙ ap (λ l. l ++ f .2) (r .1) ∙ append-assoc (xs ++ c ∷ []) (r .0) (f .2)))
+    let c : ℕ = w .0 in
+    let r = front-of (xs ++ c ∷ []) ys (w .1) t (append-assoc xs (c ∷ []) (w .1) ∙ sym (w .2) ∙ e) (omega (arith, length-append xs (c ∷ []))) in
+    w .3 (f .0, f .1, r .0 ++ f .2, f .3 ∙ ap (λ l. l ++ f .2) (r .1) ∙ append-assoc (xs ++ c ∷ []) (r .0) (f .2)))
     (a .tail)
 
 opens-fits : (xs : List ℕ) → Opens xs → Fits xs
@@ -184,8 +184,8 @@ one-place bs xs ys a b =
     let y = begins-with bs ys b in
     ⊎-elim (λ (l : length xs < length ys). absurd (too-early bs xs ys (y .0) a (y .1) (opens-fits ys (b .opens)) l))
     (λ (l : length ys ≤ length xs).
-      ⊎-elim (λ (k : length ys < length xs). absurd (too-early bs ys xs (x .0) b (x .1) (opens-fits xs (a .opens)) k))
-      (λ (k : length xs ≤ length ys). omega arith) (cases-lt (length ys) (length xs)))
+    ⊎-elim (λ (k : length ys < length xs). absurd (too-early bs ys xs (x .0) b (x .1) (opens-fits xs (a .opens)) k))
+    (λ (k : length xs ≤ length ys). omega arith) (cases-lt (length ys) (length xs)))
     (cases-lt (length xs) (length ys))
 
 overlong-opens : (xs : List ℕ) (c : ℕ) → Overlong xs c → Opens xs
@@ -244,12 +244,12 @@ not-tag xs rest i t a =
     ⊎-elim
     (λ (l : length xs < length (spelling i)). too-early (spelling i ++ rest) xs (spelling i) rest a refl (i, t, [], sym (append-nil (spelling i))) l)
     (λ (l : length (spelling i) ≤ length xs).
-      let z = front-of (spelling i) xs rest (b .0) (b .1) l in
-      let o = a .opens in
-      let more : List ℕ = z .0 ++ o .2 ∷ o .3 in
-      let whole : spelling (o .0) ++ [] ≡ spelling i ++ more = append-nil (spelling (o .0)) ∙ o .4 ∙ ap (λ l. l ++ o .2 ∷ o .3) (z .1) ∙ append-assoc (spelling i) (z .0) (o .2 ∷ o .3) in
-      let same = same-item (o .0) i (sym (tag-at 0 (o .0) [] (o .1)) ∙ ap (itemAt 0) whole ∙ tag-at 0 i more t) in
-      omega (arith, ap (λ (i : Item). length (spelling i)) same, ap (λ l. length l) (o .4), length-append xs (o .2 ∷ o .3)))
+    let z = front-of (spelling i) xs rest (b .0) (b .1) l in
+    let o = a .opens in
+    let more : List ℕ = z .0 ++ o .2 ∷ o .3 in
+    let whole : spelling (o .0) ++ [] ≡ spelling i ++ more = append-nil (spelling (o .0)) ∙ o .4 ∙ ap (λ l. l ++ o .2 ∷ o .3) (z .1) ∙ append-assoc (spelling i) (z .0) (o .2 ∷ o .3) in
+    let same = same-item (o .0) i (sym (tag-at 0 (o .0) [] (o .1)) ∙ ap (itemAt 0) whole ∙ tag-at 0 i more t) in
+    omega (arith, ap (λ (i : Item). length (spelling i)) same, ap (λ l. length l) (o .4), length-append xs (o .2 ∷ o .3)))
     (cases-lt (length xs) (length (spelling i)))
 
 not-bad : (bs rest : List ℕ) (p : ℕ) (f : Fault) (i : Item) → Tag i → bs ≡ spelling i ++ rest → BadTag bs p f → ⊥

@@ -75,10 +75,11 @@ text-front : (b : ℕ) (bs : List ℕ) → eqb b 60 ≡ false → Begins (b ∷ 
 text-front b bs e =
     let n : ℕ = leading textByte (b ∷ bs) in
     let some : n ≡ 1 + leading textByte bs = ap (λ x. cond (not x) (1 + leading textByte bs) 0) e in
-    let le = leading-le-length textByte (b ∷ bs) in
-    (drop n (b ∷ bs),
-     (omega (arith, length-take n (b ∷ bs)), all-leading textByte (b ∷ bs), run-ends (b ∷ bs)),
-     sym (take-append-drop n (b ∷ bs)))
+    let le = leading-le-length textByte (b ∷ bs) in (
+      drop n (b ∷ bs),
+      (omega (arith, length-take n (b ∷ bs)), all-leading textByte (b ∷ bs), run-ends (b ∷ bs)),
+      sym (take-append-drop n (b ∷ bs)),
+    )
 
 -- the whole run is read
 run-length : (run rest : List ℕ) → All (λ b. textByte b ≡ true) run → NoText rest → leading textByte (run ++ rest) ≡ length run
@@ -99,9 +100,9 @@ begins p (b ∷ bs) i e =
     let is : itemAt p (b ∷ bs) ≡ Ok i = item-of (itemAt p (b ∷ bs)) i e in
     ⊎-elim
     (λ (x : eqb b 60 ≡ true).
-      let tag : Tag i = subst (Granted Tag) (ap (λ c. itemAt p (c ∷ bs)) (sym (eqb-true b 60 x)) ∙ is) (tagged p bs) .granted in
-      let f = item-front p b bs i is in
-      (f .rest, lawful-tag i (f .rest) tag, f .spelled))
+    let tag : Tag i = subst (Granted Tag) (ap (λ c. itemAt p (c ∷ bs)) (sym (eqb-true b 60 x)) ∙ is) (tagged p bs) .granted in
+    let f = item-front p b bs i is in
+    (f .rest, lawful-tag i (f .rest) tag, f .spelled))
     (λ (x : eqb b 60 ≡ false). subst (Begins (b ∷ bs)) (ok-same _ i (sym (cond-false _ _ _ x) ∙ is)) (text-front b bs x))
     (cases-bool (eqb b 60))
 
@@ -119,8 +120,8 @@ goes-wrong p (b ∷ bs) f e =
     let is : itemAt p (b ∷ bs) ≡ Err f = fault-of (itemAt p (b ∷ bs)) f e in
     ⊎-elim
     (λ (x : eqb b 60 ≡ true).
-      let angle : 60 ∷ bs ≡ b ∷ bs = ap (λ c. c ∷ bs) (sym (eqb-true b 60 x)) in
-      (bs, sym angle, subst (λ l. BadTag l p f) angle (bad-tag p bs f (ap (itemAt p) angle ∙ is))))
+    let angle : 60 ∷ bs ≡ b ∷ bs = ap (λ c. c ∷ bs) (sym (eqb-true b 60 x)) in
+    (bs, sym angle, subst (λ l. BadTag l p f) angle (bad-tag p bs f (ap (itemAt p) angle ∙ is))))
     (λ (x : eqb b 60 ≡ false). absurd (ok-no-err _ f (sym (cond-false _ _ _ x) ∙ is)))
     (cases-bool (eqb b 60))
 
@@ -132,10 +133,11 @@ ended p [] e = refl
 ended p (b ∷ bs) e = absurd (never-ended (itemAt p (b ∷ bs)) e)
 
 pub lexing-is-exact : Lexing-is-exact
-lexing-is-exact = record
-  { items = λ p bs i. (begins p bs i, λ h. ap (lex p) (h .2) ∙ tag-lexed p i (h .0) (h .1))
-  ; ended = λ p bs. (ended p bs, λ e. ap (lex p) e)
-  ; refused = λ p bs f. (goes-wrong p bs f, λ h. refused p bs (h .0) f (h .1) (h .2)) }
+lexing-is-exact = record {
+  items = λ p bs i. (begins p bs i, λ h. ap (lex p) (h .2) ∙ tag-lexed p i (h .0) (h .1));
+  ended = λ p bs. (ended p bs, λ e. ap (lex p) e);
+  refused = λ p bs f. (goes-wrong p bs f, λ h. refused p bs (h .0) f (h .1) (h .2));
+}
 
 -- an item that was lexed is the front of the text
 pub lexed-front : (p : ℕ) (bs : List ℕ) (i : Item) → lex p bs ≡ Ok (Some i) → Item-front bs i

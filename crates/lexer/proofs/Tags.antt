@@ -76,7 +76,7 @@ pub tagged : (p : ℕ) (bs : List ℕ) → Granted Tag (itemAt p (60 ∷ bs))
 tagged p bs =
     either (eqb (getD bs 0 0) 47) _ _
     (λ _. chain _ (nameAt (p + 2) (drop 1 bs)) (endTail p (drop 1 bs)) (name-lawful (p + 2) (drop 1 bs))
-      (λ n h. either (eqb (getD (drop 1 bs) n 0) 62) _ _ (λ _. grant _ h) (λ _. refuse _)))
+    (λ n h. either (eqb (getD (drop 1 bs) n 0) 62) _ _ (λ _. grant _ h) (λ _. refuse _)))
     (λ _. chain _ (nameAt (p + 1) bs) (startTail p bs) (name-lawful (p + 1) bs)
-      (λ n h. either (eqb (getD bs n 0) 62) _ _ (λ _. grant _ h)
-        (λ _. either (eqb (getD bs n 0) 47) _ _ (λ _. either (eqb (getD bs (n + 1) 0) 62) _ _ (λ _. grant _ h) (λ _. refuse _)) (λ _. refuse _))))
+    (λ n h. either (eqb (getD bs n 0) 62) _ _ (λ _. grant _ h)
+    (λ _. either (eqb (getD bs n 0) 47) _ _ (λ _. either (eqb (getD bs (n + 1) 0) 62) _ _ (λ _. grant _ h) (λ _. refuse _)) (λ _. refuse _))))

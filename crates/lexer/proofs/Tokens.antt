@@ -24,33 +24,39 @@ module _ (bs : List ℕ) (p n : ℕ) (t : Tag) where
   pub end-token : (rest : List ℕ) → rest ≡ 60 ∷ 47 ∷ bs → nameAt (p + 2) bs ≡ Ok n → getD bs n 0 ≡ 62 → Sized rest p 2 n (n + 3) t
       → Finds p (endTag p bs) (Ok (End t))
   end-token rest r named close s =
-      let name : t .name .bytes .now ≡ take n bs = s .name .1 ∙ ap (λ l. take n (drop 2 l)) r in
-      (ap (λ x. andThen x (endTail p bs)) named ∙ cond-true _ _ _ (eq-eqb _ _ close) ∙ ap (λ l. Ok (end l)) (sym name),
-       record
-         { place = s .whole .0
-         ; whole = s .whole .1 ∙ ap (take (n + 3)) r ∙ end-front bs n close ∙ ap (λ l. spelling (end l)) (sym name)
-         ; name = s .name .0 })
+      let name : t .name .bytes .now ≡ take n bs = s .name .1 ∙ ap (λ l. take n (drop 2 l)) r in (
+        ap (λ x. andThen x (endTail p bs)) named ∙ cond-true _ _ _ (eq-eqb _ _ close) ∙ ap (λ l. Ok (end l)) (sym name),
+        record {
+          place = s .whole .0;
+          whole = s .whole .1 ∙ ap (take (n + 3)) r ∙ end-front bs n close ∙ ap (λ l. spelling (end l)) (sym name);
+          name = s .name .0;
+        },
+      )
 
   pub start-token : (rest : List ℕ) → rest ≡ 60 ∷ bs → nameAt (p + 1) bs ≡ Ok n → getD bs n 0 ≡ 62 → Sized rest p 1 n (n + 2) t
       → Finds p (startTag p bs) (Ok (Start t))
   start-token rest r named close s =
-      let name : t .name .bytes .now ≡ take n bs = s .name .1 ∙ ap (λ l. take n (drop 1 l)) r in
-      (ap (λ x. andThen x (startTail p bs)) named ∙ cond-true _ _ _ (eq-eqb _ _ close) ∙ ap (λ l. Ok (start l)) (sym name),
-       record
-         { place = s .whole .0
-         ; whole = s .whole .1 ∙ ap (take (n + 2)) r ∙ start-front bs n close ∙ ap (λ l. spelling (start l)) (sym name)
-         ; name = s .name .0 })
+      let name : t .name .bytes .now ≡ take n bs = s .name .1 ∙ ap (λ l. take n (drop 1 l)) r in (
+        ap (λ x. andThen x (startTail p bs)) named ∙ cond-true _ _ _ (eq-eqb _ _ close) ∙ ap (λ l. Ok (start l)) (sym name),
+        record {
+          place = s .whole .0;
+          whole = s .whole .1 ∙ ap (take (n + 2)) r ∙ start-front bs n close ∙ ap (λ l. spelling (start l)) (sym name);
+          name = s .name .0;
+        },
+      )
 
   pub empty-token : (rest : List ℕ) → rest ≡ 60 ∷ bs → nameAt (p + 1) bs ≡ Ok n → getD bs n 0 ≡ 47 → getD bs (n + 1) 0 ≡ 62 → Sized rest p 1 n (n + 3) t
       → Finds p (startTag p bs) (Ok (Empty t))
   empty-token rest r named slash close s =
-      let name : t .name .bytes .now ≡ take n bs = s .name .1 ∙ ap (λ l. take n (drop 1 l)) r in
-      (ap (λ x. andThen x (startTail p bs)) named ∙ cond-false _ _ _ (ap (λ x. eqb x 62) slash) ∙ cond-true _ _ _ (eq-eqb _ _ slash) ∙ cond-true _ _ _ (eq-eqb _ _ close)
-         ∙ ap (λ l. Ok (empty l)) (sym name),
-       record
-         { place = s .whole .0
-         ; whole = s .whole .1 ∙ ap (take (n + 3)) r ∙ empty-front bs n slash close ∙ ap (λ l. spelling (empty l)) (sym name)
-         ; name = s .name .0 })
+      let name : t .name .bytes .now ≡ take n bs = s .name .1 ∙ ap (λ l. take n (drop 1 l)) r in (
+        ap (λ x. andThen x (startTail p bs)) named ∙ cond-false _ _ _ (ap (λ x. eqb x 62) slash) ∙ cond-true _ _ _ (eq-eqb _ _ slash) ∙ cond-true _ _ _ (eq-eqb _ _ close)
+            ∙ ap (λ l. Ok (empty l)) (sym name),
+        record {
+          place = s .whole .0;
+          whole = s .whole .1 ∙ ap (take (n + 3)) r ∙ empty-front bs n slash close ∙ ap (λ l. spelling (empty l)) (sym name);
+          name = s .name .0;
+        },
+      )
 
 -- the first two bytes tell the items apart
 pub item-end : (p : ℕ) (bs : List ℕ) → getD bs 0 0 ≡ 60 → getD bs 1 0 ≡ 47 → endTag p (drop 2 bs) ≡ itemAt p bs

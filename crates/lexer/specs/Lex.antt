@@ -36,8 +36,8 @@ abbrev pub startTail : ℕ → List ℕ → ℕ → Result Item Fault
 startTail p bs n =
     cond (eqb (getD bs n 0) 62) (Ok (start (take n bs)))
     (cond (eqb (getD bs n 0) 47)
-      (cond (eqb (getD bs (n + 1) 0) 62) (Ok (empty (take n bs))) (Err (fault Stray (p + 2 + n))))
-      (Err (fault Stray (p + 1 + n))))
+    (cond (eqb (getD bs (n + 1) 0) 62) (Ok (empty (take n bs))) (Err (fault Stray (p + 2 + n))))
+    (Err (fault Stray (p + 1 + n))))
 
 -- behind the `<` at p
 abbrev pub startTag : ℕ → List ℕ → Result Item Fault

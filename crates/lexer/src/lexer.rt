@@ -35,7 +35,10 @@ fn byte_at(bytes: &[u8], i: usize) -> u8
 fn stray<T>(place: usize) -> Result<T, Fault>
     ensures { λ r. ⌜ r ≡ Err (fault Stray place) ⌝ }
 {
-    Err(Fault { refusal: Refusal::Stray, place })
+    Err(Fault {
+        refusal: Refusal::Stray,
+        place,
+    })
 }
 
 // The length of the name at the front of `bytes`, which stand from `place` on.
@@ -49,7 +52,10 @@ fn name_len(bytes: &[u8], place: usize) -> Result<usize, Fault>
     }
     let len = scan::run::<NameBytes>(bytes);
     if len > name::MOST_BYTES {
-        return Err(Fault { refusal: Refusal::BookNameTooLong, place: place + name::MOST_BYTES });
+        return Err(Fault {
+            refusal: Refusal::BookNameTooLong,
+            place: place + name::MOST_BYTES,
+        });
     }
     Ok(len)
 }
@@ -62,8 +68,14 @@ fn tag<'t>(rest: &'t [u8], place: usize, skip: usize, len: usize, size: usize) -
     ensures name { λ r. ⌜ (r .name .place ≡ place + skip) × (now (r .name .bytes) ≡ take len (drop skip (now (rest .entry)))) ⌝ }
 {
     Tag {
-        whole: Part { place, bytes: &rest[0..size] },
-        name: Part { place: place + skip, bytes: &rest[skip..skip + len] },
+        whole: Part {
+            place,
+            bytes: &rest[0..size],
+        },
+        name: Part {
+            place: place + skip,
+            bytes: &rest[skip..skip + len],
+        },
     }
 }
 
@@ -91,7 +103,11 @@ fn start_tag<'t>(rest: &'t [u8], after: &'t [u8], place: usize) -> Result<Token<
         b'>' => Ok(Token::Start(tag(rest, place, 1, len, len + 2))),
         b'/' => {
             let close = byte_at(after, len + 1);
-            if close == b'>' { Ok(Token::Empty(tag(rest, place, 1, len, len + 3))) } else { stray(place + 2 + len) }
+            if close == b'>' {
+                Ok(Token::Empty(tag(rest, place, 1, len, len + 3)))
+            } else {
+                stray(place + 2 + len)
+            }
         }
         _ => stray(place + 1 + len),
     }
@@ -103,7 +119,10 @@ fn text_run<'t>(rest: &'t [u8], place: usize) -> Token<'t>
     ensures written { λ r. ⌜ Written place r ⌝ }
 {
     let len = scan::run::<TextBytes>(rest);
-    Token::Text(Part { place, bytes: &rest[0..len] })
+    Token::Text(Part {
+        place,
+        bytes: &rest[0..len],
+    })
 }
 
 // The item at the front of `rest`, which stands from `place` on: a tag is known by its first two bytes.

@@ -19,11 +19,12 @@ pub name-of : (bs : List ℕ) → nameFirst (getD bs 0 0) ≡ true → leading n
 name-of [] f h = absurd (true≢false (sym f))
 name-of (b ∷ bs) f h =
     let z : leading nameByte (b ∷ bs) ≡ suc (leading nameByte bs) = ap (λ x. cond x (1 + leading nameByte bs) 0) (first-is-byte b f) ∙ omega arith in
-    record
-      { some = omega (arith, length-take (leading nameByte (b ∷ bs)) (b ∷ bs))
-      ; short = omega (arith, length-take (leading nameByte (b ∷ bs)) (b ∷ bs))
-      ; first = subst (λ k. nameFirst (getD (take k (b ∷ bs)) 0 0) ≡ true) (sym z) f
-      ; each = all-leading nameByte (b ∷ bs) }
+    record {
+      some = omega (arith, length-take (leading nameByte (b ∷ bs)) (b ∷ bs));
+      short = omega (arith, length-take (leading nameByte (b ∷ bs)) (b ∷ bs));
+      first = subst (λ k. nameFirst (getD (take k (b ∷ bs)) 0 0) ≡ true) (sym z) f;
+      each = all-leading nameByte (b ∷ bs);
+    }
 
 -- a lawful name is one run of name bytes
 pub name-run : (name : List ℕ) → LawfulName name → leading nameByte name ≡ length name

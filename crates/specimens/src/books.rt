@@ -38,7 +38,10 @@ fn push_times(text: &mut Vec<u8>, part: &[u8], count: usize) -> Result<(), Alloc
 #[test]
 fn granted(rt: LibcRuntime) -> Result<(), Fail> {
     let table = [
-        lines_of("<b><p><n/></p><p></p></b>", "0 21 0 b\n3 10 1 p\n6 8 2 n\n14 17 1 p\nend\n"),
+        lines_of(
+            "<b><p><n/></p><p></p></b>",
+            "0 21 0 b\n3 10 1 p\n6 8 2 n\n14 17 1 p\nend\n",
+        ),
         lines_of("<a/>", "0 2 0 a\nend\n"),
         lines_of("<a></a>", "0 3 0 a\nend\n"),
         lines_of(" \t\r\n<a/> \t\r\n", "4 6 0 a\nend\n"),
@@ -47,7 +50,10 @@ fn granted(rt: LibcRuntime) -> Result<(), Fail> {
         lines_of("<_><A-1.b/></_>", "0 11 0 _\n3 9 1 A-1.b\nend\n"),
         // names compare by bytes, and a name of 32 bytes is lawful
         lines_of("<a><A/></a>", "0 7 0 a\n3 5 1 A\nend\n"),
-        lines_of("<abcdefghijklmnopqrstuvwxyzABCDEF/>", "0 33 0 abcdefghijklmnopqrstuvwxyzABCDEF\nend\n"),
+        lines_of(
+            "<abcdefghijklmnopqrstuvwxyzABCDEF/>",
+            "0 33 0 abcdefghijklmnopqrstuvwxyzABCDEF\nend\n",
+        ),
     ];
     check_all(rt.alloc(), &table)
 }
@@ -148,9 +154,16 @@ fn flat(heap: Global, count: usize) -> Result<Vec<u8>, AllocError> {
 fn elements(rt: LibcRuntime) -> Result<(), Fail> {
     let heap = rt.alloc();
     let most = outline::outline(heap, flat(heap, 65_534)?.as_slice())?;
-    check(most.as_slice().starts_with(b"0 262139 0 a\n3 5 1 b\n7 9 1 b\n"))?;
+    check(
+        most.as_slice()
+            .starts_with(b"0 262139 0 a\n3 5 1 b\n7 9 1 b\n"),
+    )?;
     check(most.as_slice().ends_with(b"\n262135 262137 1 b\nend\n"))?;
-    check_outline(heap, flat(heap, 65_535)?.as_slice(), "refused 7 at 262139\n")
+    check_outline(
+        heap,
+        flat(heap, 65_535)?.as_slice(),
+        "refused 7 at 262139\n",
+    )
 }
 
 // A top element with `count` empty ones, each of its own name of two letters.
@@ -171,9 +184,16 @@ fn many_names(heap: Global, count: u16) -> Result<Vec<u8>, AllocError> {
 fn names(rt: LibcRuntime) -> Result<(), Fail> {
     let heap = rt.alloc();
     let most = outline::outline(heap, many_names(heap, 1023)?.as_slice())?;
-    check(most.as_slice().starts_with(b"0 6141 0 a\n3 7 1 AAa\n9 13 1 ABa\n"))?;
+    check(
+        most.as_slice()
+            .starts_with(b"0 6141 0 a\n3 7 1 AAa\n9 13 1 ABa\n"),
+    )?;
     check(most.as_slice().ends_with(b"\n6135 6139 1 NIb\nend\n"))?;
-    check_outline(heap, many_names(heap, 1024)?.as_slice(), "refused 7 at 6141\n")
+    check_outline(
+        heap,
+        many_names(heap, 1024)?.as_slice(),
+        "refused 7 at 6141\n",
+    )
 }
 
 #[test]

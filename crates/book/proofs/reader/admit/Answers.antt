@@ -31,7 +31,7 @@ returns c =
     record {
       element = enter-at (c .args .opens) (c .args .count) _ (c .args .place) (bytesOf before) name (Ok tt) number (sym (c .in-Continue-check-element .ensures tt .value));
       names = elim (c .if-number-len .came) [
-          then-number-len·in-Continue-push w ↦
+        | then-number-len·in-Continue-push w ↦
             interned-new before name _ (c .args .name) refl (sym number ∙ w .if-number-len .taken ∙ c .len .ensures ∙ long)
             (ap (λ n. vec-items (n .list)) (w .names-is) ∙ w .in-Continue-push .ensures tt)
         | else-number-len w ↦

@@ -34,7 +34,7 @@ turn : (c : After-next) (r : Result (Option Token) Fault) → c .next .result �
 turn c r e =
     subst (Turn (c .args .text .now) (c .loop-reader .lexer .at) (c .next .last .self .at)) e
     (subst (λ text. Turn text (c .loop-reader .lexer .at) (c .next .last .self .at) (c .next .result)) (c .loop-reader .inv .0)
-      (record { inside = c .loop-reader .lexer .inside; item = c .next .ensures .item; moved = c .next .ensures .moved; parts = c .next .ensures .parts }))
+    (record { inside = c .loop-reader .lexer .inside; item = c .next .ensures .item; moved = c .next .ensures .moved; parts = c .next .ensures .parts }))
 
 -- the turn with an item
 token-turn : (c : In-Some) → Turn (c .args .text .now) (c .loop-reader .lexer .at) (c .next .last .self .at) (Ok (Some (c .in-Some .token)))
@@ -66,10 +66,11 @@ loop-reader-again c =
     let i = itemOf (c .in-Some .token) in
     let s = stateOf (c .loop-reader .reader) in
     let u = stateOf (c .take .last .self) in
-    let taken : step s (c .loop-reader .lexer .at) i ≡ Ok u = ap (λ p. step s p i) (sym (t .parts .written .place)) ∙ c .in-Continue-take .ensures tt in
-    (c .next .ensures .text ∙ c .loop-reader .inv .0,
-     subst (λ q. Sofar (c .args .text .now) q u) (sym (t .moved)) (one-more _ _ s (c .loop-reader .inv .1) i u (t .inside) (sym (t .item)) taken),
-     step-consistent s u _ i (c .loop-reader .inv .2) taken)
+    let taken : step s (c .loop-reader .lexer .at) i ≡ Ok u = ap (λ p. step s p i) (sym (t .parts .written .place)) ∙ c .in-Continue-take .ensures tt in (
+      c .next .ensures .text ∙ c .loop-reader .inv .0,
+      subst (λ q. Sofar (c .args .text .now) q u) (sym (t .moved)) (one-more _ _ s (c .loop-reader .inv .1) i u (t .inside) (sym (t .item)) taken),
+      step-consistent s u _ i (c .loop-reader .inv .2) taken,
+    )
 
 pub returns-in-Break-token : need.returns-in-Break-token
 returns-in-Break-token c =
@@ -85,8 +86,8 @@ returns-in-Break-take c =
     let t = token-turn (need.at·returns-in-Break-take c .In-Some) in
     let i = itemOf (c .in-Some .token) in
     rw (p .1, p .2) (book-fails (c .args .text .now) e (c .in-Continue-check-length .ensures tt .short)
-      (step-fails _ _ _ (c .loop-reader .inv .1) i e (t .inside) (sym (t .item))
-        (subst (λ p. Fails (step (stateOf (c .loop-reader .reader)) p i) e) (t .parts .written .place) (c .in-Break-take .ensures tt))))
+    (step-fails _ _ _ (c .loop-reader .inv .1) i e (t .inside) (sym (t .item))
+    (subst (λ p. Fails (step (stateOf (c .loop-reader .reader)) p i) e) (t .parts .written .place) (c .in-Break-take .ensures tt))))
 
 pub returns-in-Break-finish : need.returns-in-Break-finish
 returns-in-Break-finish c =

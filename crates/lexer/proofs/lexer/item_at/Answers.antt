@@ -14,9 +14,10 @@ use Rattle.lexer.proofs.lexer.item_at.Needs as need
 pub end-tag-requires : need.end-tag-requires
 end-tag-requires c κs =
     let rest = c .args .rest .now in
-    record
-      { room = c .pre
-      ; begins = begin-two rest 60 47 (search needs) (search needs) (omega arith) (omega arith) ∙ ap (λ l. 60 ∷ 47 ∷ l) (sym (take-rest rest 2)) }
+    record {
+      room = c .pre;
+      begins = begin-two rest 60 47 (search needs) (search needs) (omega arith) (omega arith) ∙ ap (λ l. 60 ∷ 47 ∷ l) (sym (take-rest rest 2));
+    }
 
 pub start-tag-requires : need.start-tag-requires
 start-tag-requires c κs =

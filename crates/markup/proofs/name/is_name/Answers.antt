@@ -6,6 +6,7 @@ use Rattle.markup.proofs.name.is_name.Needs as need
 
 pub returns-then-starts-name : need.returns-then-starts-name
 returns-then-starts-name c =
-    let bytes = c .args .bytes .now in
-    (λ e. name-from-run bytes (omega arith) (sym (c .if-starts-name .ensures tt)) (sym (c .run .ensures .value) ∙ eqb-true _ _ e),
-     λ l. eq-eqb _ _ (c .run .ensures .value ∙ name-run bytes l))
+    let bytes = c .args .bytes .now in (
+      λ e. name-from-run bytes (omega arith) (sym (c .if-starts-name .ensures tt)) (sym (c .run .ensures .value) ∙ eqb-true _ _ e),
+      λ l. eq-eqb _ _ (c .run .ensures .value ∙ name-run bytes l),
+    )

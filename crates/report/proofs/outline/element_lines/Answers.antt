@@ -27,4 +27,4 @@ pub returns : need.returns
 returns c =
     c .in-Continue-extend-from-slice-2 .ensures tt .items
     ∙ (λ i. all-done (c .args .names .now) (c .args .elements .now) (c .loop-element .element-index) (vec-items (c .loop-element .lines)) _ (c .loop-element .inv) (omega arith) i
-        ++ (c .as-slice-2 .ensures .value ∙ c .in-Continue-end .ensures tt) i)
+    ++ (c .as-slice-2 .ensures .value ∙ c .in-Continue-end .ensures tt) i)

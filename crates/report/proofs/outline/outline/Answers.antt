@@ -20,7 +20,7 @@ element-lines-requires c κs =
     let book = c .in-Ok .book in
     let known = names-known (treeOf book) (c .in-Ok .ensures tt .lawful) in
     let count : length (bytesOf (vec-items (book .names))) ≡ length (c .as-slice-in-Ok .result .now) =
-        length-map (vec-items (book .names)) (λ (n : RefT (List ℕ)). n .now) ∙ ap (λ l. length l) (sym (c .as-slice-in-Ok .ensures .value)) in
+    length-map (vec-items (book .names)) (λ (n : RefT (List ℕ)). n .now) ∙ ap (λ l. length l) (sym (c .as-slice-in-Ok .ensures .value)) in
     subst (λ (es : List Element). All (λ (e : Element). e .name < length (c .as-slice-in-Ok .result .now)) es) (sym (c .as-slice .ensures .value))
     (subst (λ n. All (λ (e : Element). e .name < n) (vec-items (book .elements))) count known)
 
@@ -29,7 +29,7 @@ returns-in-Ok c =
     let book = c .in-Ok .book in
     granted-outline (c .args .text .now) vec-items (c .element-lines .result) (treeOf book) (c .in-Ok .ensures tt)
     (subst (λ l. made (c .element-lines .result) (λ v. vec-items v ≡ l ++ endLine))
-      (λ i. elementLines (bytesOf (c .as-slice-in-Ok .ensures .value i)) (c .as-slice .ensures .value i)) (c .element-lines .ensures))
+    (λ i. elementLines (bytesOf (c .as-slice-in-Ok .ensures .value i)) (c .as-slice .ensures .value i)) (c .element-lines .ensures))
 
 pub returns-in-Err : need.returns-in-Err
 returns-in-Err c = refused-outline (c .args .text .now) vec-items (c .error-line .result) (c .in-Err .error) (c .in-Err .ensures tt) (c .error-line .ensures)

@@ -19,7 +19,7 @@ like c b e =
 pub returns-then-not-same-name : need.returns-then-not-same-name
 returns-then-not-same-name c =
     rw (c .fault-then-not-same-name .ensures) (close-unlike (c .args .self .now) (vec-items (c .pop .last .self)) (c .in-Some .open) (c .in-Some .ensures tt .items) (c .args .place) (c .args .name .now)
-      (like (need.at·returns-then-not-same-name c .After-same-name) false (c .if-not-same-name .taken)))
+    (like (need.at·returns-then-not-same-name c .After-same-name) false (c .if-not-same-name .taken)))
 
 pub index-mut-requires : need.index-mut-requires
 index-mut-requires c κs =

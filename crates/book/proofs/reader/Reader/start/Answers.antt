@@ -36,4 +36,4 @@ returns c =
     let os = pushed {was = vec-items (self .opens)} (o ∷ []) refl (c .in-Continue-push-2 .was tt) (c .push-2 .ensures .items) in
     ap (λ r. andThen r (λ e. Ok (opened (stateOf self) name e))) admitted
     ∙ ap Ok (opened-is self name e o _ (vec-items (c .admit .last .names .list)) _ es (c .in-Continue-element .ensures tt .names) os
-      (ap (λ n. record { number = n; element = e; name = name }) (c .len-number .ensures ∙ elements-count self)))
+    (ap (λ n. record { number = n; element = e; name = name }) (c .len-number .ensures ∙ elements-count self)))

@@ -36,11 +36,12 @@ returns-in-Break-token c =
     let p = err-from-errBy (c .from-residual .result) (c .from-residual .ensures .1) in
     let k = need.at·returns-in-Break-token c .After-item-at in
     let lexer = c .args .self .now in
-    record
-      { text = refl
-      ; item = rw (p .1, p .2) (next-refused (lexer .text .now) (lexer .at) _ (before-end k) (told k (Err _) (c .in-Break-token .was tt)))
-      ; moved = rw (p .1) refl
-      ; parts = rw (p .1) tt }
+    record {
+      text = refl;
+      item = rw (p .1, p .2) (next-refused (lexer .text .now) (lexer .at) _ (before-end k) (told k (Err _) (c .in-Break-token .was tt)));
+      moved = rw (p .1) refl;
+      parts = rw (p .1) tt;
+    }
 
 pub ghost-self : need.ghost-self
 ghost-self c =
@@ -56,8 +57,9 @@ returns c =
     let lexer = c .args .self .now in
     let t = c .in-Continue-token .token in
     let f = told k (Ok t) (c .in-Continue-token .was tt) in
-    record
-      { text = refl
-      ; item = next-item (lexer .text .now) (lexer .at) t (before-end k) f
-      ; moved = ap (λ (part : Part). lexer .at + length (part .bytes .now)) (c .whole .ensures) ∙ next-moved (lexer .text .now) (lexer .at) t (before-end k) f
-      ; parts = next-parts (lexer .text .now) (lexer .at) t (before-end k) f }
+    record {
+      text = refl;
+      item = next-item (lexer .text .now) (lexer .at) t (before-end k) f;
+      moved = ap (λ (part : Part). lexer .at + length (part .bytes .now)) (c .whole .ensures) ∙ next-moved (lexer .text .now) (lexer .at) t (before-end k) f;
+      parts = next-parts (lexer .text .now) (lexer .at) t (before-end k) f;
+    }
