@@ -46,6 +46,17 @@ module _ (es : List Element) (m : ℕ) (u : ℕ → ℕ) (by : UsedBy (nameIn es
   pub uses-from-places : ((k : ℕ) → k < length es → nameIn es k ≤ u k) → u (length es) ≡ m → FirstUses 0 es m
   uses-from-places h e = subst (λ n. FirstUses n es m) (by .0) (listed es m u (by .1) h e)
 
+-- Every name number is below the last count.
+
+uses-rise : (es : List Element) (n m : ℕ) → FirstUses n es m → n ≤ m
+uses-rise [] n m h = omega arith
+uses-rise (e ∷ es) n m h = omega (arith, uses-rise es (max n (e .name + 1)) m (h .1))
+
+pub uses-below : (es : List Element) (n m : ℕ) → FirstUses n es m → (k : ℕ) → k < length es → nameIn es k < m
+uses-below [] n m h k l = absurd (omega arith)
+uses-below (e ∷ es) n m h zero l = omega (arith, uses-rise es (max n (e .name + 1)) m (h .1))
+uses-below (e ∷ es) n m h (suc k) l = uses-below es (max n (e .name + 1)) m (h .1) k (omega arith)
+
 -- What the count says.
 module _ (f : ℕ → ℕ) (n : ℕ) (u : ℕ → ℕ) (by : UsedBy f n u) where
   used-rises : (i k : ℕ) → i ≤ k → k ≤ n → u i ≤ u k
