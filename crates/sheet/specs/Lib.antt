@@ -1,1 +1,5 @@
 pub mod Writing
+pub mod Opening
+pub mod Stack
+pub mod Links
+pub mod Viewing
