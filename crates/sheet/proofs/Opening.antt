@@ -26,7 +26,7 @@ answered bs (Ok u) s e n = record { header = s .0; size = s .1; elements = e; na
 answered bs (Err f) s e n = inr (inr (inr n))
 
 -- what is refused is not lawful
-refused-unlawful : (bs : List ℕ) (f : Fault) → Refused bs f → LawfulSheet bs → ⊥
+pub refused-unlawful : (bs : List ℕ) (f : Fault) → Refused bs f → LawfulSheet bs → ⊥
 refused-unlawful bs f (inl w) l =
     let t = l .header 7 (lit< tt) in
     let z = l .size in

@@ -3,3 +3,4 @@ pub mod Opening
 pub mod Stack
 pub mod Links
 pub mod Viewing
+pub mod Laws

@@ -2,6 +2,7 @@
 mod check;
 mod elements;
 mod encoder;
+pub mod laws;
 mod names;
 mod read;
 mod view;
