@@ -15,12 +15,10 @@ use markup::Fault;
 use tree::Element;
 
 // The sheet of `<a/>`.
-static FIRST: [u8; 61] = [
-    1, 0, 0, 0, 1, 0, 0, 0, 1, 0, 0, 0, 32, 0, 0, 0, //
-    48, 0, 0, 0, 60, 0, 0, 0, 1, 0, 0, 0, 61, 0, 0, 0, //
-    0, 0, 0, 0, 2, 0, 0, 0, 0, 0, 0, 0, 1, 0, 0, 0, //
-    0, 0, 0, 0, 1, 0, 0, 0, 0, 0, 0, 0, 97,
-];
+static FIRST: &[u8; 61] = b"\x01\0\0\0\x01\0\0\0\x01\0\0\0\x20\0\0\0\
+    \x30\0\0\0\x3c\0\0\0\x01\0\0\0\x3d\0\0\0\
+    \0\0\0\0\x02\0\0\0\0\0\0\0\x01\0\0\0\
+    \0\0\0\0\x01\0\0\0\0\0\0\0a";
 
 // Shows the elements and names of a lawful sheet, straight from its bytes. Elements and names are numbered from 0.
 #[derive(Clone, Copy)]
@@ -34,7 +32,7 @@ impl<'b> SheetView<'b> {
     pub fn new() -> Self
         ensures { λ r. ⌜ r .bytes .now ≡ sheetOf firstTree ⌝ }
     {
-        SheetView { bytes: &FIRST }
+        SheetView { bytes: FIRST }
     }
 
     // Turns the view to the given bytes where they are a lawful sheet. Else the fault is what is wrong first, and the
