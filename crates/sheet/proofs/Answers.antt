@@ -5,7 +5,7 @@ use mathlib.Core.List.{List}
 use mathlib.Core.Logic.{_⊎_, inl, inr, ⊎-elim}
 use Prim.Native.Nat.{ℕ, _*_, _<_}
 use native.Mathlib.Omega.{arith}
-use lib.Dec.{leb, lit<}
+use lib.Dec.{ltb, lit<}
 use lib.ListN.{length}
 use Rattle.std.specs.declared.result.Result.{Result}
 use Rattle.std.specs.declared.result.Result.the-variants.{Ok, Err}
@@ -27,7 +27,7 @@ lawful-trees-are-encoded t law room =
     let es = t .elements in
     let ts = t .names in
     let fit = fields-fit es ts (record { elements = few-elements es ts law; names = law .few; named = named-below es ts law; short = names-short es ts law }) in
-    ap (λ (r : Result (Unit {0}) Fault). andThen r (λ _. cond (leb (length (sheetOf t)) room) (Ok (length (sheetOf t))) (Err (fault SheetWontFit (length (sheetOf t)))))) fit
+    ap (λ (r : Result (Unit {0}) Fault). andThen r (λ _. cond (ltb room (length (sheetOf t))) (Err (fault SheetWontFit (length (sheetOf t)))) (Ok (length (sheetOf t))))) fit
 
 pub encodings-open : Encodings-open
 encodings-open t law (Ok u) o = refl

@@ -6,14 +6,14 @@ use mathlib.Core.Logic.{⊎-elim, _≢_}
 use Prim.Native.Nat.{ℕ, _+_, _*_, _<_, _≤_}
 use native.Mathlib.Omega.{arith}
 use lib.Dec.{eqb}
-use lib.ListN.{length, getD, set, drop}
-use Rattle.std.proofs.shelf.Lists.{at-drop-more, getD-set-same, getD-set-other}
+use lib.ListN.{length, getD, set, drop, replicate}
+use Rattle.std.proofs.shelf.Lists.{at-drop-more, drop-all, getD-replicate, getD-set-same, getD-set-other}
 use Rattle.std.proofs.shelf.Tests.{cases-eq, eq-eqb, ne-eqb, cond-true, cond-false}
 use Rattle.tree.specs.declared.element.Element.{Element}
 use Rattle.layout.specs.Encoding.{blank, seek, le32, elementBytes, elementTable, nameBytes, nameTable, headerBytes, words, joint, encoded}
 use Rattle.layout.proofs.Tables.{length-le32, length-element, length-name, length-header, length-elements, length-names, length-encoded, seek-more, joint-more}
 use Rattle.sheet.specs.Writing.{Puts}
-use Rattle.sheet.proofs.Puts.{puts-after, puts-before}
+use Rattle.sheet.proofs.Puts.{puts-none, puts-after, puts-before}
 
 -- One more number or record.
 
@@ -39,6 +39,14 @@ name-more f ts j o t s s₁ w at b h e p room a c =
     rw e (sym (at-drop-more (λ (xs : List (List ℕ)). nameTable f xs j o) ts j [] h)) in
     subst (λ (x : List ℕ). Puts x s at w) r
     (puts-after v (nameTable f (drop (j + 1) ts) (j + 1) (o + length t)) s at b (omega (arith, length-name o (length t) (f j))) room s₁ w a c)
+
+-- no element from m on
+module _ (es : List Element) (m : ℕ) (past : length es ≤ m) where
+  pub table-none : (s : List ℕ) → Puts (elementTable (drop m es) m) s (32 + 16 * m) s
+  table-none s = let d = drop-all m es past in rw d (puts-none s (32 + 16 * m))
+
+  pub seek-none : (n : ℕ) → n < 1024 → getD (replicate 1024 m) n 0 ≡ seek n (drop m es) m
+  seek-none n h = let d = drop-all m es past in rw d (getD-replicate 1024 n m 0 h)
 
 -- element k, from the back, where those from m on are done
 module _ (es : List Element) (k m : ℕ) (h : k < length es) (next : m ≡ k + 1) where

@@ -3,7 +3,7 @@ use Prim.Native.Nat.{ℕ}
 use mathlib.Core.Path.{_≡_}
 use mathlib.Core.Bool.{cond}
 use mathlib.Core.List.{List}
-use lib.Dec.{leb}
+use lib.Dec.{ltb}
 use lib.ListN.{length}
 use Rattle.std.specs.declared.result.Result.{Result}
 use Rattle.std.specs.declared.result.Result.the-variants.{Ok, Err}
@@ -20,7 +20,7 @@ abbrev pub Lawful-trees-are-encoded : Type 0
 Lawful-trees-are-encoded =
     (t : Tree) → LawfulTree t → (room : ℕ)
     → encodes (t .elements) (t .names) room
-    ≡ cond (leb (length (sheetOf t)) room) (Ok (length (sheetOf t))) (Err (fault SheetWontFit (length (sheetOf t))))
+    ≡ cond (ltb room (length (sheetOf t))) (Err (fault SheetWontFit (length (sheetOf t)))) (Ok (length (sheetOf t)))
 
 -- Opening the sheet of a lawful tree is granted.
 abbrev pub Encodings-open : Type 0

@@ -13,32 +13,28 @@ use Rattle.markup.specs.Faults.{fault, andThen}
 use Rattle.tree.specs.declared.element.Element.{Element}
 use Rattle.layout.specs.Encoding.{encoded}
 
--- each of the elements, whose records begin at o, has a name number below n
+-- the first of the elements, whose records begin at o, with a name number of n or more
 abbrev pub numbersFit : ℕ → List Element → ℕ → Result (Unit {0}) Fault
 numbersFit n [] o = Ok tt
-numbersFit n (e ∷ es) o = cond (ltb (e .name) n) (numbersFit n es (o + 16)) (Err (fault ElementRecord o))
+numbersFit n (e ∷ es) o = cond (leb n (e .name)) (Err (fault ElementRecord o)) (numbersFit n es (o + 16))
 
--- each of the names, whose records begin at o, has at most 32 bytes
+-- the first of the names, whose records begin at o, with more than 32 bytes
 abbrev pub namesFit : List (List ℕ) → ℕ → Result (Unit {0}) Fault
 namesFit [] o = Ok tt
-namesFit (t ∷ ts) o = cond (leb (length t) 32) (namesFit ts (o + 12)) (Err (fault NameRecord o))
+namesFit (t ∷ ts) o = cond (ltb 32 (length t)) (Err (fault NameRecord o)) (namesFit ts (o + 12))
 
--- a sheet's fields can hold these elements and names; else the first field or record that cannot
+-- the first field or record of a sheet that cannot hold what these elements and names have there
 abbrev pub fieldsFit : List Element → List (List ℕ) → Result (Unit {0}) Fault
 fieldsFit es ts =
-    cond (leb (length es) 65535)
-      (cond (leb (length ts) 1024)
-        (andThen (numbersFit (length ts) es 32) (λ _. namesFit ts (32 + 16 * length es)))
-        (Err (fault HeaderField 8)))
-      (Err (fault HeaderField 4))
+    cond (ltb 65535 (length es)) (Err (fault HeaderField 4))
+    (cond (ltb 1024 (length ts)) (Err (fault HeaderField 8))
+    (andThen (numbersFit (length ts) es 32) (λ _. namesFit ts (32 + 16 * length es))))
 
--- what encoding answers where the buffer has so many bytes: the sheet's length
+-- what encoding answers where the buffer has so many bytes: the sheet's length, unless a field or the buffer is too small
 abbrev pub encodes : List Element → List (List ℕ) → ℕ → Result ℕ Fault
 encodes es ts room =
-    andThen (fieldsFit es ts) (λ _.
-      cond (leb (length (encoded es ts)) room)
-        (Ok (length (encoded es ts)))
-        (Err (fault SheetWontFit (length (encoded es ts)))))
+    andThen (fieldsFit es ts)
+    (λ _. cond (ltb room (length (encoded es ts))) (Err (fault SheetWontFit (length (encoded es ts)))) (Ok (length (encoded es ts))))
 
 -- what the buffer holds after that answer: the sheet and what stood behind it, or what it held
 abbrev pub written : List Element → List (List ℕ) → Result ℕ Fault → List ℕ → List ℕ

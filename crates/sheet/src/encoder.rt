@@ -14,6 +14,7 @@ use tree::Element;
 
 // The most elements and the most names that a sheet shows.
 const MOST_ELEMENTS: usize = 65_535;
+
 const MOST_NAMES: usize = 1_024;
 
 // Whether the elements' name numbers are below the count of names; else the first element record that would be wrong.

@@ -88,11 +88,10 @@ impl<'b> SheetView<'b> {
     pub fn name(&self, j: u32) -> Option<&'b [u8]>
         ensures { λ r. ⌜ NameIn (now (self .entry) .bytes .now) j r ⌝ }
     {
-        if j < self.name_count() {
-            Some(read::read_text(self.bytes, j))
-        } else {
-            None
+        if j >= self.name_count() {
+            return None;
         }
+        Some(read::read_text(self.bytes, j))
     }
 
     // The number of the first element with name j; the count of elements where there is no such name.

@@ -1,9 +1,9 @@
 // What opening answers to sheets that are cut, lengthened or changed.
 use crate::book::SHEET;
 use markup::Fault;
+use markup::Refusal;
 use markup::fault::FaultDebug;
 use markup::fault::FaultPartialEq;
-use markup::Refusal;
 use sheet::SheetView;
 use std::test::*;
 
@@ -21,7 +21,10 @@ fn refuses_other_lengths() -> Result<(), Fail> {
             refusal: Refusal::SheetLength,
             place: n,
         };
-        check_eq(opened(&long[0..n]), if n == 135 { Ok(()) } else { Err(wrong) })?;
+        check_eq(
+            opened(&long[0..n]),
+            if n == 135 { Ok(()) } else { Err(wrong) },
+        )?;
     }
     Ok(())
 }

@@ -2,17 +2,15 @@ use mathlib.Core.Path.{_≡_, refl}
 use Prim.Native.Nat.{ℕ, _+_, _-_, _*_, _<_}
 use native.Mathlib.Omega.{arith}
 use lib.ListN.{length, getD}
-use Rattle.std.proofs.shelf.Lists.{drop-all, getD-replicate, length-set}
+use Rattle.std.proofs.shelf.Lists.{length-set}
 use Rattle.layout.specs.Encoding.{blank}
-use Rattle.sheet.proofs.Parts.{seek-set, table-more}
-use Rattle.sheet.proofs.Puts.{puts-none}
+use Rattle.sheet.proofs.Parts.{table-none, seek-none, seek-set, table-more}
 use Rattle.sheet.proofs.encoder.put_elements.Needs as need
 
 pub loop-k-holds : need.loop-k-holds
 loop-k-holds c =
     let es = c .args .elements .now in
-    let d = drop-all (length es) es (omega arith) in
-    (refl, rw d (puts-none (c .args .out .now) (32 + 16 * length es)), λ n h. rw d (getD-replicate 1024 n (length es) 0 h))
+    (refl, table-none es (length es) (omega arith) (c .args .out .now), seek-none es (length es) (omega arith))
 
 pub loop-k-again : need.loop-k-again
 loop-k-again c =
