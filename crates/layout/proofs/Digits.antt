@@ -1,11 +1,11 @@
 -- Numbers and their bytes.
-use mathlib.Core.Path.{_≡_, refl, sym, ap, _∙_}
-use mathlib.Core.List.{List, [], _∷_, _++_}
+use mathlib.Core.Path.{_≡_, ap, _∙_}
+use mathlib.Core.List.{List, _∷_, _++_}
 use Prim.Native.Nat.{ℕ, _+_, _*_, _/_, _%_, _<_, _≤_}
 use native.Mathlib.Omega.{arith}
 use native.Mathlib.Nat.{div-div-eq-div-mul}
 use lib.ListN.{length, getD, drop}
-use Rattle.std.proofs.shelf.Lists.{getD-drop, drop-more, drop-drop}
+use Rattle.std.proofs.shelf.Lists.{getD-drop, drop-more}
 use Rattle.layout.specs.Layout.{u16At, u32At}
 use Rattle.layout.specs.Encoding.{le16, le32}
 

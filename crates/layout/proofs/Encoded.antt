@@ -1,8 +1,8 @@
 -- The sheet of a lawful tree is lawful and shows that tree.
 use mathlib.Core.Path.{_≡_, refl, sym, ap, subst, _∙_}
-use mathlib.Core.List.{List, [], map}
+use mathlib.Core.List.{List, []}
 use mathlib.Core.Logic.{⊎-elim}
-use Prim.Native.Nat.{ℕ, zero, suc, max, _+_, _*_, _<_, _≤_}
+use Prim.Native.Nat.{ℕ, zero, suc, max, _+_, _<_, _≤_}
 use native.Mathlib.Omega.{arith}
 use lib.ListN.{length, getD, take, drop}
 use Rattle.std.proofs.shelf.Lists.{length-map, getD-map, take-all}
@@ -11,10 +11,10 @@ use Rattle.std.proofs.shelf.Tests.{cases-lt}
 use Rattle.markup.specs.Name.{LawfulName}
 use Rattle.tree.specs.declared.element.Element.{Element}
 use Rattle.tree.specs.Region.{Region, Fits}
-use Rattle.tree.specs.Tree.{Tree, LawfulTree, regionOf}
+use Rattle.tree.specs.Tree.{LawfulTree, regionOf}
 use Rattle.tree.proofs.Uses.{nameIn, UsedBy, uses-by-places, uses-below, used-few, used-found}
 use Rattle.layout.specs.declared.record.NameRecord.{NameRecord}
-use Rattle.layout.specs.Layout.{elementCount, nameCount, byteCount, elementAt, regionAt, nextAt, nameAt, nameText, elementsOf, namesOf}
+use Rattle.layout.specs.Layout.{elementCount, nameCount, elementAt, regionAt, nameAt, nameText, elementsOf, namesOf}
 use Rattle.layout.specs.Lawful.{RightField, FirstFrom, FirstNamed, RightNumbers, RightName, used, namesEnd, LawfulSheet}
 use Rattle.layout.specs.Encoding.{blank, seek, joint, encoded}
 use Rattle.layout.specs.Laws.{Sheet-reads-back}
@@ -48,17 +48,18 @@ module _ (es : List Element) (ts : List (List ℕ)) (law : LawfulTree (record { 
       (law .regions .each k (omega (arith, length-map es regionOf)))
 
   small : Small es ts
-  small = record
-    { elements = few-elements
-    ; names = law .few
-    ; bytes = omega (arith, length-joint-bounds ts (λ j h. (law .lawful j h .some, law .lawful j h .short)) .1, law .few)
-    ; each = λ k h.
+  small = record {
+    elements = few-elements;
+    names = law .few;
+    bytes = omega (arith, length-joint-bounds ts (λ j h. (law .lawful j h .some, law .lawful j h .short)) .1, law .few);
+    each = λ k h.
         let b = bounds k h in
         let n = named-below k h in
         let f = law .few in
-        (omega arith, omega arith, omega arith, omega arith)
-    ; found = λ x m h. omega (arith, seek-first es x m h .within, few-elements)
-    ; short = names-short }
+        (omega arith, omega arith, omega arith, omega arith);
+    found = λ x m h. omega (arith, seek-first es x m h .within, few-elements);
+    short = names-short;
+  }
 
   -- The elements.
 
@@ -87,10 +88,11 @@ module _ (es : List Element) (ts : List (List ℕ)) (law : LawfulTree (record { 
   numbers k h =
       let n = name-of k h in
       let x = shown-next es ts small k h in
-      record
-        { named = omega (arith, named-below k h, shown-names es ts small)
-        ; fresh = omega (arith, fresh .0 k h)
-        ; next = rw (n, x) (first-from (getD es k blank .name) (k + 1) (omega arith)) }
+      record {
+        named = omega (arith, named-below k h, shown-names es ts small);
+        fresh = omega (arith, fresh .0 k h);
+        next = rw (n, x) (first-from (getD es k blank .name) (k + 1) (omega arith));
+      }
 
   -- The names.
 
@@ -107,7 +109,7 @@ module _ (es : List Element) (ts : List (List ℕ)) (law : LawfulTree (record { 
       let r = used-found (nameIn es) (length es) (used (encoded es ts)) used-by (fresh .0) (length es) j (omega arith) (omega (arith, fresh .1)) in
       ⊎-elim (λ (a : seek j es 0 < elementCount (encoded es ts)). a)
       (λ (a : elementCount (encoded es ts) ≤ seek j es 0).
-        absurd (f .before (r .0) (omega arith) (omega (arith, r .1, count)) (name-of (r .0) (r .1) ∙ r .2)))
+      absurd (f .before (r .0) (omega arith) (omega (arith, r .1, count)) (name-of (r .0) (r .1) ∙ r .2)))
       (cases-lt (seek j es 0) (elementCount (encoded es ts)))
 
   name : (j : ℕ) → j < length ts → RightName (encoded es ts) j
@@ -117,13 +119,14 @@ module _ (es : List Element) (ts : List (List ℕ)) (law : LawfulTree (record { 
       let l : nameAt (encoded es ts) j .length ≡ length (getD ts j []) = ap (λ (x : NameRecord). x .length) n in
       let f : nameAt (encoded es ts) j .first ≡ seek j es 0 = ap (λ (x : NameRecord). x .first) n in
       let t = shown-text es ts small j h in
-      record
-        { follows = o ∙ sym (ends j (omega arith))
-        ; within = omega (arith, length-joint-take ts j h, length-joint-halves ts (suc j), shown-bytes es ts small)
-        ; lawful = subst LawfulName (sym t) (law .lawful j h)
-        ; has = omega (arith, has j h)
-        ; first = subst (FirstNamed (encoded es ts) j 0) (sym f) (first-from j 0 (omega arith))
-        ; different = λ i g e. law .different i j g h (sym (shown-text es ts small i (omega arith)) ∙ (e ∙ t)) }
+      record {
+        follows = o ∙ sym (ends j (omega arith));
+        within = omega (arith, length-joint-take ts j h, length-joint-halves ts (suc j), shown-bytes es ts small);
+        lawful = subst LawfulName (sym t) (law .lawful j h);
+        has = omega (arith, has j h);
+        first = subst (FirstNamed (encoded es ts) j 0) (sym f) (first-from j 0 (omega arith));
+        different = λ i g e. law .different i j g h (sym (shown-text es ts small i (omega arith)) ∙ (e ∙ t));
+      }
 
   -- The header.
 
@@ -131,9 +134,11 @@ module _ (es : List Element) (ts : List (List ℕ)) (law : LawfulTree (record { 
   field zero h = head es ts small .0
   field (suc zero) h = (omega (arith, count, some-elements), omega (arith, count, few-elements))
   field (suc (suc zero)) h =
-      let n = shown-names es ts small in
-      (omega (arith, some-names), omega (arith, law .few),
-       omega (arith, count, used-few (nameIn es) (length es) (used (encoded es ts)) used-by (fresh .0) (length es) (omega arith), fresh .1))
+      let n = shown-names es ts small in (
+        omega (arith, some-names),
+        omega (arith, law .few),
+        omega (arith, count, used-few (nameIn es) (length es) (used (encoded es ts)) used-by (fresh .0) (length es) (omega arith), fresh .1),
+      )
   field (suc (suc (suc zero))) h = head es ts small .3
   field (suc (suc (suc (suc zero)))) h = omega (arith, head es ts small .4, count)
   field (suc (suc (suc (suc (suc zero))))) h = omega (arith, head es ts small .5, count, shown-names es ts small)
@@ -145,15 +150,16 @@ module _ (es : List Element) (ts : List (List ℕ)) (law : LawfulTree (record { 
   field (suc (suc (suc (suc (suc (suc (suc i))))))) h = omega (arith, head es ts small .7, count, shown-names es ts small, shown-bytes es ts small)
 
   pub encoded-lawful : LawfulSheet (encoded es ts)
-  encoded-lawful = record
-    { header = field
-    ; size = omega (arith, length-encoded es ts, count, shown-names es ts small, shown-bytes es ts small)
-    ; elements = λ k h. let l : k < length es = omega (arith, count) in record { region = region-fits k l; numbers = numbers k l }
-    ; names = λ j h. name j (omega (arith, shown-names es ts small))
-    ; filled =
+  encoded-lawful = record {
+    header = field;
+    size = omega (arith, length-encoded es ts, count, shown-names es ts small, shown-bytes es ts small);
+    elements = λ k h. let l : k < length es = omega (arith, count) in record { region = region-fits k l; numbers = numbers k l };
+    names = λ j h. name j (omega (arith, shown-names es ts small));
+    filled =
         ap (namesEnd (encoded es ts)) (shown-names es ts small)
         ∙ (ends (length ts) (omega arith)
-        ∙ (ap (λ (us : List (List ℕ)). length (joint us)) (take-all (length ts) ts (omega arith)) ∙ sym (shown-bytes es ts small))) }
+        ∙ (ap (λ (us : List (List ℕ)). length (joint us)) (take-all (length ts) ts (omega arith)) ∙ sym (shown-bytes es ts small)));
+  }
 
   encoded-elements : elementsOf (encoded es ts) ≡ es
   encoded-elements =
@@ -166,6 +172,7 @@ module _ (es : List Element) (ts : List (List ℕ)) (law : LawfulTree (record { 
       sym (fill-by-all (nameText (encoded es ts)) ts (nameCount (encoded es ts)) [] (sym n) (λ j h. sym (shown-text es ts small j (omega arith))))
 
 pub sheet-reads-back : Sheet-reads-back
-sheet-reads-back t law =
-    (encoded-lawful (t .elements) (t .names) law,
-     λ i. record { elements = encoded-elements (t .elements) (t .names) law i; names = encoded-names (t .elements) (t .names) law i })
+sheet-reads-back t law = (
+  encoded-lawful (t .elements) (t .names) law,
+  λ i. record { elements = encoded-elements (t .elements) (t .names) law i; names = encoded-names (t .elements) (t .names) law i },
+)

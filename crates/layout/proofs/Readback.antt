@@ -1,10 +1,10 @@
 -- What stands in the bytes of a sheet that was made of elements and names.
-use mathlib.Core.Path.{_≡_, refl, sym, ap, subst, _∙_}
-use mathlib.Core.List.{List, [], _∷_, _++_, map}
-use Prim.Native.Nat.{ℕ, zero, suc, _+_, _-_, _*_, _<_, _≤_}
+use mathlib.Core.Path.{_≡_, refl, sym, ap, _∙_}
+use mathlib.Core.List.{List, [], _++_}
+use Prim.Native.Nat.{ℕ, _+_, _-_, _*_, _<_, _≤_}
 use native.Mathlib.Omega.{arith}
 use lib.ListN.{length, getD, take, drop}
-use Rattle.std.proofs.shelf.Lists.{append-assoc, length-append, drop-drop, drop-at, drop-append-le, drop-more, take-at, at-drop-more, drop-all}
+use Rattle.std.proofs.shelf.Lists.{append-assoc, drop-drop, drop-at, drop-append-le, take-at, at-drop-more}
 use Rattle.tree.specs.declared.element.Element.{Element}
 use Rattle.layout.specs.declared.record.NameRecord.{NameRecord}
 use Rattle.layout.specs.Layout.{u16At, u32At, elementCount, nameCount, byteCount, bytesOffset, elementAt, nextAt, nameAt, nameText}

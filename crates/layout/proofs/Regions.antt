@@ -6,7 +6,7 @@ use native.Mathlib.Omega.{arith}
 use lib.ListN.{length, getD}
 use Rattle.std.proofs.shelf.Lists.{length-map, getD-map}
 use Rattle.tree.specs.declared.element.Element.{Element}
-use Rattle.tree.specs.Region.{Region, BookOf, LawfulBook, at, Fits}
+use Rattle.tree.specs.Region.{BookOf, LawfulBook, at, Fits}
 use Rattle.tree.specs.Tree.{regionOf}
 use Rattle.tree.proofs.Books.{book-by, fits-in, same-book}
 use Rattle.layout.specs.Layout.{elementAt, regionAt}

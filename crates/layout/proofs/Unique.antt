@@ -1,7 +1,6 @@
 -- A lawful sheet is the sheet of the tree that it shows, and that tree is lawful.
 use mathlib.Core.Path.{_≡_, refl, sym, ap, subst, _∙_}
-use mathlib.Core.List.{List, [], _∷_, _++_, map}
-use mathlib.Core.Logic.{_↔_}
+use mathlib.Core.List.{List, [], _∷_, _++_}
 use Prim.Native.Nat.{ℕ, zero, suc, max, _+_, _-_, _*_, _<_, _≤_}
 use native.Mathlib.Omega.{arith}
 use native.Mathlib.Numerals.{add-one}
@@ -11,7 +10,7 @@ use Rattle.std.proofs.shelf.Lists.{append-assoc, drop-drop, drop-all, at-drop-m
 use Rattle.std.proofs.shelf.Counted.{length-map-counting, getD-map-counting}
 use Rattle.markup.specs.Name.{LawfulName}
 use Rattle.tree.specs.declared.element.Element.{Element}
-use Rattle.tree.specs.Tree.{Tree, LawfulTree}
+use Rattle.tree.specs.Tree.{LawfulTree}
 use Rattle.tree.proofs.Uses.{nameIn, UsedBy, uses-from-places, name-below}
 use Rattle.layout.specs.Layout.{u16At, u32At, elementCount, nameCount, byteCount, bytesOffset, elementAt, nextAt, nameAt, nameText, nameOffset, elementsOf, namesOf, treeOf}
 use Rattle.layout.specs.Lawful.{FirstFrom, FirstNamed, LawfulSheet, namesEnd, used}
@@ -262,22 +261,24 @@ module _ (bs : List ℕ) (law : LawfulSheet bs) where
       let count = length-elementsOf bs in
       let names = length-namesOf bs in
       let some = law .header 1 (lit< tt) in
-      record
-        { regions = book-of-fits bs (elementsOf bs) (elementCount bs) count (λ k h. sym (getD-elementsOf bs k h)) (some .0) (some .1) (λ k h. law .elements k h .region)
-        ; few = omega (arith, law .header 2 (lit< tt) .1)
-        ; lawful = λ j h. let l : j < nameCount bs = omega arith in subst LawfulName (sym (getD-namesOf bs j l)) (law .names j l .lawful)
-        ; different = λ i j h g e.
+      record {
+        regions = book-of-fits bs (elementsOf bs) (elementCount bs) count (λ k h. sym (getD-elementsOf bs k h)) (some .0) (some .1) (λ k h. law .elements k h .region);
+        few = omega (arith, law .header 2 (lit< tt) .1);
+        lawful = λ j h. let l : j < nameCount bs = omega arith in subst LawfulName (sym (getD-namesOf bs j l)) (law .names j l .lawful);
+        different = λ i j h g e.
             let l : j < nameCount bs = omega arith in
-            law .names j l .different i h (sym (getD-namesOf bs i (omega arith)) ∙ (e ∙ getD-namesOf bs j l))
-        ; used =
+            law .names j l .different i h (sym (getD-namesOf bs i (omega arith)) ∙ (e ∙ getD-namesOf bs j l));
+        used =
             uses-from-places (elementsOf bs) (length (namesOf bs)) (used bs) used-in
             (λ k h. let l : k < elementCount bs = omega arith in omega (arith, name-of k l, law .elements k l .numbers .fresh))
-            (ap (used bs) count ∙ (all-used ∙ sym names)) }
+            (ap (used bs) count ∙ (all-used ∙ sym names));
+      }
 
 pub sheet-shows-a-tree : Sheet-shows-a-tree
 sheet-shows-a-tree = tree-of
 
 pub sheets-of-lawful-trees : Sheets-of-lawful-trees
-sheets-of-lawful-trees bs bytes =
-    (λ law. (treeOf bs, tree-of bs law, sheet-of-its-tree bs bytes law),
-     λ h. subst LawfulSheet (sym (h .2)) (encoded-lawful (h .0 .elements) (h .0 .names) (h .1)))
+sheets-of-lawful-trees bs bytes = (
+  λ law. (treeOf bs, tree-of bs law, sheet-of-its-tree bs bytes law),
+  λ h. subst LawfulSheet (sym (h .2)) (encoded-lawful (h .0 .elements) (h .0 .names) (h .1)),
+)

@@ -14,10 +14,10 @@ use Rattle.markup.specs.declared.fault.Fault.{Fault}
 use Rattle.markup.specs.declared.fault.Refusal.the-variants.{SheetWontFit, HeaderField, ElementRecord, NameRecord}
 use Rattle.markup.specs.Faults.{fault, andThen}
 use Rattle.layout.specs.Layout.{elementCount, elementOffset, nameOffset}
-use Rattle.layout.specs.Lawful.{RightHeader, RightElement, RightName}
+use Rattle.layout.specs.Lawful.{RightHeader, RightElement}
 use Rattle.layout.specs.Encoding.{sheetOf}
 use Rattle.layout.proofs.Encoded.{few-elements, named-below, names-short, sheet-reads-back}
-use Rattle.sheet.specs.Opening.{FirstWrong, Each, Sized, WrongLength, WrongHeader, WrongElement, WrongName, Refused, Opened}
+use Rattle.sheet.specs.Opening.{FirstWrong, Each, Sized, WrongLength, WrongHeader, WrongElement, WrongName, Refused}
 use Rattle.sheet.specs.Laws.{Lawful-trees-are-encoded, Encodings-open, Opening-has-one-answer}
 use Rattle.sheet.proofs.Fields.{fields-fit}
 use Rattle.sheet.proofs.Opening.{refused-unlawful}
@@ -72,11 +72,11 @@ module _ (bs : List ℕ) where
   one-name f g v w =
       ⊎-elim
       (λ p. ⊎-elim
-        (λ q. p .1 ∙ (ap (λ (j : ℕ). fault NameRecord (nameOffset bs j)) (first-wrong-one _ _ _ _ (p .2) (q .2)) ∙ sym (q .1)))
-        (λ q. absurd (p .2 .here (q .1 (p .0) (p .2 .within)))) (w .2))
+      (λ q. p .1 ∙ (ap (λ (j : ℕ). fault NameRecord (nameOffset bs j)) (first-wrong-one _ _ _ _ (p .2) (q .2)) ∙ sym (q .1)))
+      (λ q. absurd (p .2 .here (q .1 (p .0) (p .2 .within)))) (w .2))
       (λ p. ⊎-elim
-        (λ q. absurd (q .2 .here (p .1 (q .0) (q .2 .within))))
-        (λ q. p .0 ∙ sym (q .0)) (w .2))
+      (λ q. absurd (q .2 .here (p .1 (q .0) (q .2 .within))))
+      (λ q. p .0 ∙ sym (q .0)) (w .2))
       (v .2)
 
   one-refusal : (f g : Fault) → Refused bs f → Refused bs g → f ≡ g

@@ -49,11 +49,12 @@ roomy es ts h =
     let a = granted _ _ _ h in
     let b = granted _ _ _ (a .1) in
     let c = both _ _ (b .1) in
-    record
-      { elements = ltb-false _ _ (a .0)
-      ; names = ltb-false _ _ (b .0)
-      ; named = numbers-below (length ts) es 32 (c .0)
-      ; short = names-short ts (32 + 16 * length es) (c .1) }
+    record {
+      elements = ltb-false _ _ (a .0);
+      names = ltb-false _ _ (b .0);
+      named = numbers-below (length ts) es 32 (c .0);
+      short = names-short ts (32 + 16 * length es) (c .1);
+    }
 
 -- What is roomy is granted.
 

@@ -17,13 +17,14 @@ pub right-name : (bs : List ℕ) (j end : ℕ) (n : NameRecord) (b : Bool) → n
     → When b ((i : ℕ) × (i < j) × (nameText bs i ≡ nameText bs j)) ((i : ℕ) → i < j → nameText bs i ≡ nameText bs j → ⊥)
     → When (not b) (RightName bs j) (RightName bs j → ⊥)
 right-name bs j end n true e o p w t f r = λ right. right .different (r .0) (r .1) (r .2)
-right-name bs j end n false e o p w t f r = record
-  { follows = ap (λ (x : NameRecord). x .offset) (sym e) ∙ (o ∙ p)
-  ; within = subst (λ (x : NameRecord). x .offset + x .length ≤ byteCount bs) e w
-  ; lawful = t
-  ; has = subst (λ (x : NameRecord). x .first < elementCount bs) e (f .0)
-  ; first = subst (λ (x : NameRecord). FirstNamed bs j 0 (x .first)) e (f .1)
-  ; different = r }
+right-name bs j end n false e o p w t f r = record {
+  follows = ap (λ (x : NameRecord). x .offset) (sym e) ∙ (o ∙ p);
+  within = subst (λ (x : NameRecord). x .offset + x .length ≤ byteCount bs) e w;
+  lawful = t;
+  has = subst (λ (x : NameRecord). x .first < elementCount bs) e (f .0);
+  first = subst (λ (x : NameRecord). FirstNamed bs j 0 (x .first)) e (f .1);
+  different = r;
+}
 
 -- the first element of a name by the table
 pub first-by : (bs table : List ℕ) (j f : ℕ) → Firsts bs 0 table → j < 1024 → f ≡ getD table j 0 → FirstNamed bs j 0 f

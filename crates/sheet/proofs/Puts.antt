@@ -1,6 +1,6 @@
 -- Writing one part after another.
-use mathlib.Core.Path.{_≡_, refl, sym, ap, _∙_}
-use mathlib.Core.List.{List, [], _∷_, _++_}
+use mathlib.Core.Path.{_≡_, sym, ap, _∙_}
+use mathlib.Core.List.{List, [], _++_}
 use Prim.Native.Nat.{ℕ, _+_, _≤_}
 use native.Mathlib.Omega.{arith}
 use lib.ListN.{length, take, drop}
@@ -25,8 +25,8 @@ module _ (v w s : List ℕ) (at b : ℕ) (here : b ≡ at + length v) (room : b 
       let t : take b s₁ ≡ take at s ++ v = ap (take b) p′ ∙ take-at (take at s ++ v) (drop (at + length v) s) b front in
       let d : drop b s₁ ≡ drop (at + length v) s = ap (drop b) p′ ∙ drop-at (take at s ++ v) (drop (at + length v) s) b front in
       let e : drop (b + length w) s₁ ≡ drop (at + length (v ++ w)) s =
-        sym (drop-drop (length w) b s₁)
-        ∙ (ap (drop (length w)) d ∙ (drop-drop (length w) (at + length v) s ∙ ap (λ (n : ℕ). drop n s) (omega (arith, length-append v w)))) in
+      sym (drop-drop (length w) b s₁)
+      ∙ (ap (drop (length w)) d ∙ (drop-drop (length w) (at + length v) s ∙ ap (λ (n : ℕ). drop n s) (omega (arith, length-append v w)))) in
       q ∙ (rw (t, e, append-assoc (take at s) v (w ++ drop (at + length (v ++ w)) s), append-assoc v w (drop (at + length (v ++ w)) s)))
 
   -- w, then v before it
@@ -34,8 +34,8 @@ module _ (v w s : List ℕ) (at b : ℕ) (here : b ≡ at + length v) (room : b 
   puts-before s₁ s₂ p q =
       let l : length (take b s) ≡ b = length-take-le b s room in
       let t : take at s₁ ≡ take at s =
-        ap (take at) p ∙ (take-append-le at (take b s) (w ++ drop (b + length w) s) (omega arith) ∙ take-take at b s (omega arith)) in
+      ap (take at) p ∙ (take-append-le at (take b s) (w ++ drop (b + length w) s) (omega arith) ∙ take-take at b s (omega arith)) in
       let e : drop (at + length v) s₁ ≡ w ++ drop (b + length w) s =
-        ap (λ (n : ℕ). drop n s₁) (sym here) ∙ (ap (drop b) p ∙ drop-at (take b s) (w ++ drop (b + length w) s) b l) in
+      ap (λ (n : ℕ). drop n s₁) (sym here) ∙ (ap (drop b) p ∙ drop-at (take b s) (w ++ drop (b + length w) s) b l) in
       let f : b + length w ≡ at + length (v ++ w) = omega (arith, length-append v w) in
       q ∙ (rw (t, e, f, append-assoc))

@@ -6,6 +6,8 @@ ghost use Rattle.std.specs.Results.{Cases};
 ghost use Rattle.layout.specs.Lawful.{RightField, RightHeader};
 ghost use Rattle.sheet.specs.Opening.{WrongHeader, Opened};
 use crate::elements;
+use crate::limits::MOST_ELEMENTS;
+use crate::limits::MOST_NAMES;
 use crate::names;
 use crate::read;
 use markup::Fault;
@@ -24,8 +26,8 @@ fn is_right_field(bytes: &[u8], i: usize) -> bool
     let field = read::read_u32(bytes, 4 * i) as u64;
     match i {
         0 => field == 1,
-        1 => 1 <= elements && elements <= 65_535,
-        2 => 1 <= names && names <= 1_024 && names <= elements,
+        1 => 1 <= elements && elements <= MOST_ELEMENTS as u64,
+        2 => 1 <= names && names <= MOST_NAMES as u64 && names <= elements,
         3 => field == 32,
         4 => field == 32 + 16 * elements,
         5 => field == texts,

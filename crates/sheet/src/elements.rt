@@ -1,5 +1,5 @@
 // Checks the element records of a sheet.
-ghost use Prim.Native.Nat.{ℕ, _+_, _-_, _*_, _<_, _≤_};
+ghost use Prim.Native.Nat.{_+_, _-_, _*_, _<_, _≤_};
 ghost use mathlib.Core.Path.{_≡_};
 ghost use lib.ListN.{length, getD};
 ghost use Rattle.std.specs.Orderings.{When};
@@ -10,6 +10,9 @@ ghost use Rattle.layout.specs.Lawful.{RightElement, RightNumbers, used};
 ghost use Rattle.sheet.specs.Opening.{WrongElement, Sized, Each};
 ghost use Rattle.sheet.specs.Stack.{Stack, Placed, lastStart};
 ghost use Rattle.sheet.specs.Links.{LinkedFrom, Firsts};
+use crate::limits::LAST_END;
+use crate::limits::MOST_LEVELS;
+use crate::limits::MOST_NAMES;
 use crate::read;
 use markup::Fault;
 use markup::Refusal;
@@ -18,7 +21,7 @@ use markup::Refusal;
 #[derive(Drop)]
 pub struct Links {
     pub wrong: u32,
-    pub first: [u32; 1024],
+    pub first: [u32; MOST_NAMES],
 }
 
 // One pass from the back, which knows the nearest element of each name.
@@ -29,10 +32,10 @@ pub fn read_links(bytes: &[u8]) -> Links
 {
     let count = read::read_u32(bytes, 4);
     let mut wrong = count;
-    let mut first = [count; 1024];
+    let mut first = [count; MOST_NAMES];
     for k in (0..count).rev() {
         let name = read::read_element(bytes, k).name as usize;
-        if name < 1024 {
+        if name < MOST_NAMES {
             if read::read_next(bytes, k) != first[name] {
                 wrong = k;
             }
@@ -43,7 +46,7 @@ pub fn read_links(bytes: &[u8]) -> Links
 }
 
 // How many of the open elements are left where those that end below `start` are closed.
-fn close(bytes: &[u8], stack: &[u32; 64], mut depth: usize, k: u32, start: u32) -> usize
+fn close(bytes: &[u8], stack: &[u32; MOST_LEVELS], mut depth: usize, k: u32, start: u32) -> usize
     requires long { ⌜ 32 + 16 * k ≤ length (now bytes) ⌝ }
     requires opened { ⌜ Stack (regionAt (now bytes)) k start (now stack) depth ⌝ }
     ensures opened { λ r. ⌜ Stack (regionAt (now (bytes .entry))) k start (now (stack .entry)) r ⌝ }
@@ -56,14 +59,14 @@ fn close(bytes: &[u8], stack: &[u32; 64], mut depth: usize, k: u32, start: u32) 
 }
 
 // How many elements are open around element k, or none where its region does not fit among those before it.
-fn place(bytes: &[u8], stack: &[u32; 64], depth: usize, k: u32) -> Option<usize>
+fn place(bytes: &[u8], stack: &[u32; MOST_LEVELS], depth: usize, k: u32) -> Option<usize>
     requires long { ⌜ 48 + 16 * k ≤ length (now bytes) ⌝ }
     requires before { ⌜ Each (Fits (regionAt (now bytes))) k ⌝ }
     requires opened { ⌜ Stack (regionAt (now bytes)) k (lastStart (regionAt (now bytes)) k) (now stack) depth ⌝ }
     ensures { λ r. ⌜ Placed (regionAt (now (bytes .entry))) k (now (stack .entry)) r ⌝ }
 {
     let e = read::read_element(bytes, k);
-    if e.start >= e.end || e.end > 16_777_215 || e.level > 63 {
+    if e.start >= e.end || e.end > LAST_END || e.level as usize >= MOST_LEVELS {
         return None;
     }
     if k > 0 && e.start <= read::read_element(bytes, k - 1).start {
@@ -100,7 +103,7 @@ pub fn check_elements(bytes: &[u8], wrong: u32) -> Result<(), Fault>
     ensures { λ r. ⌜ Cases r (λ _. Each (RightElement (now (bytes .entry))) (elementCount (now (bytes .entry)))) (λ f. WrongElement (now (bytes .entry)) f) ⌝ }
 {
     let count = read::read_u32(bytes, 4);
-    let mut stack = [0; 64];
+    let mut stack = [0; MOST_LEVELS];
     let mut depth = 0;
     let mut seen = 0;
     for k in 0..count {

@@ -5,17 +5,14 @@ ghost use mathlib.Core.List.{[], map};
 ghost use lib.ListN.{length, getD};
 ghost use Rattle.layout.specs.Encoding.{blank, seek, elementTable, nameTable, headerBytes, joint};
 ghost use Rattle.sheet.specs.Writing.{numbersFit, namesFit, fieldsFit, encodes, written, Puts};
+use crate::limits::MOST_ELEMENTS;
+use crate::limits::MOST_NAMES;
 use crate::write;
 use layout::NameRecord;
 use markup::Fault;
 use markup::Refusal;
 use markup::name;
 use tree::Element;
-
-// The most elements and the most names that a sheet shows.
-const MOST_ELEMENTS: usize = 65_535;
-
-const MOST_NAMES: usize = 1_024;
 
 // Whether the elements' name numbers are below the count of names; else the first element record that would be wrong.
 fn check_numbers(elements: &[Element], names: usize) -> Result<(), Fault>
@@ -100,7 +97,7 @@ fn put_header(out: &mut [u8], elements: u32, names: u32, bytes: u32)
 }
 
 // The element table, in one pass from the back that knows the nearest element of each name. Answers each name's first element.
-fn put_elements(out: &mut [u8], elements: &[Element]) -> [u32; 1024]
+fn put_elements(out: &mut [u8], elements: &[Element]) -> [u32; MOST_NAMES]
     requires few { ⌜ length (now elements) ≤ 65535 ⌝ }
     requires named { ⌜ ((k : ℕ) → k < length (now elements) → getD (now elements) k blank .name < 1024) ⌝ }
     requires room { ⌜ 32 + 16 * length (now elements) ≤ length (now out) ⌝ }
@@ -118,7 +115,7 @@ fn put_elements(out: &mut [u8], elements: &[Element]) -> [u32; 1024]
 }
 
 // The name table, from the offset `at` on.
-fn put_names(out: &mut [u8], at: usize, names: &[&[u8]], first: &[u32; 1024])
+fn put_names(out: &mut [u8], at: usize, names: &[&[u8]], first: &[u32; MOST_NAMES])
     requires few { ⌜ length (now names) ≤ 1024 ⌝ }
     requires short { ⌜ ((j : ℕ) → j < length (now names) → length (getD (map now (now names)) j []) ≤ 32) ⌝ }
     requires room { ⌜ at + 12 * length (now names) ≤ length (now out) ⌝ }

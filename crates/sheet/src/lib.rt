@@ -3,6 +3,7 @@ mod check;
 mod elements;
 mod encoder;
 pub mod laws;
+mod limits;
 mod names;
 mod read;
 mod view;

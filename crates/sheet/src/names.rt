@@ -1,7 +1,7 @@
 // Checks the name records of a sheet.
 ghost use Prim.Native.Nat.{ℕ, _+_, _*_, _<_, _≤_};
 ghost use mathlib.Core.Path.{_≡_};
-ghost use lib.ListN.{length, getD};
+ghost use lib.ListN.{length};
 ghost use Rattle.std.specs.Orderings.{When};
 ghost use Rattle.std.specs.Results.{Cases};
 ghost use Rattle.markup.specs.Name.{LawfulName};
@@ -9,6 +9,7 @@ ghost use Rattle.layout.specs.Layout.{elementCount, nameCount, byteCount, nameA
 ghost use Rattle.layout.specs.Lawful.{FirstNamed, RightElement, RightName, namesEnd};
 ghost use Rattle.sheet.specs.Opening.{WrongName, Sized, Each};
 ghost use Rattle.sheet.specs.Links.{Firsts, keyOf, Keys};
+use crate::limits::MOST_NAMES;
 use crate::read;
 use markup::Fault;
 use markup::Refusal;
@@ -27,7 +28,7 @@ fn key(text: &[u8]) -> u32
 }
 
 // Whether an earlier name has the bytes of name j, where `keys` holds the earlier names' keys.
-fn is_repeated(bytes: &[u8], keys: &[u32; 1024], j: u32) -> bool
+fn is_repeated(bytes: &[u8], keys: &[u32; MOST_NAMES], j: u32) -> bool
     requires sized { ⌜ Sized (now bytes) ⌝ }
     requires within { ⌜ j < nameCount (now bytes) ⌝ }
     requires fits { ⌜ nameAt (now bytes) j .offset + nameAt (now bytes) j .length ≤ byteCount (now bytes) ⌝ }
@@ -47,7 +48,7 @@ fn is_repeated(bytes: &[u8], keys: &[u32; 1024], j: u32) -> bool
 }
 
 // Whether element `f` is the first with name j, where `first` holds each name's first element.
-fn is_first_use(bytes: &[u8], first: &[u32; 1024], j: u32, f: u32) -> bool
+fn is_first_use(bytes: &[u8], first: &[u32; MOST_NAMES], j: u32, f: u32) -> bool
     requires long { ⌜ 32 ≤ length (now bytes) ⌝ }
     requires within { ⌜ j < 1024 ⌝ }
     requires firsts { ⌜ Firsts (now bytes) 0 (now first) ⌝ }
@@ -58,7 +59,13 @@ fn is_first_use(bytes: &[u8], first: &[u32; 1024], j: u32, f: u32) -> bool
 
 // Whether name record j is right, where the names before it end at `end` and have the keys `keys`, and `first` holds each
 // name's first element.
-fn is_right_name(bytes: &[u8], first: &[u32; 1024], keys: &[u32; 1024], end: u32, j: u32) -> bool
+fn is_right_name(
+    bytes: &[u8],
+    first: &[u32; MOST_NAMES],
+    keys: &[u32; MOST_NAMES],
+    end: u32,
+    j: u32,
+) -> bool
     requires sized { ⌜ Sized (now bytes) ⌝ }
     requires within { ⌜ j < nameCount (now bytes) ⌝ }
     requires before { ⌜ Each (RightName (now bytes)) j ⌝ }
@@ -78,7 +85,7 @@ fn is_right_name(bytes: &[u8], first: &[u32; 1024], keys: &[u32; 1024], end: u32
 }
 
 // The name records in order, and whether they take up all name bytes. `first` holds each name's first element.
-pub fn check_names(bytes: &[u8], first: &[u32; 1024]) -> Result<(), Fault>
+pub fn check_names(bytes: &[u8], first: &[u32; MOST_NAMES]) -> Result<(), Fault>
     requires sized { ⌜ Sized (now bytes) ⌝ }
     requires firsts { ⌜ Firsts (now bytes) 0 (now first) ⌝ }
     requires elements { ⌜ Each (RightElement (now bytes)) (elementCount (now bytes)) ⌝ }
@@ -87,7 +94,7 @@ pub fn check_names(bytes: &[u8], first: &[u32; 1024]) -> Result<(), Fault>
     let table = 32 + 16 * read::read_u32(bytes, 4) as usize;
     let names = read::read_u32(bytes, 8);
     let mut end = 0;
-    let mut keys = [0; 1024];
+    let mut keys = [0; MOST_NAMES];
     for j in 0..names {
         if !is_right_name(bytes, first, &keys, end, j) {
             return Err(Fault {

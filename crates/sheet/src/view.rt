@@ -1,10 +1,9 @@
 // A view of a lawful sheet.
-ghost use Prim.Native.Nat.{ℕ};
 ghost use mathlib.Core.Path.{_≡_};
 ghost use mathlib.Core.Bool.{cond};
 ghost use Rattle.std.specs.Orderings.{Decides};
 ghost use Rattle.std.specs.Results.{isOk};
-ghost use Rattle.layout.specs.Layout.{elementCount, nameCount, treeOf};
+ghost use Rattle.layout.specs.Layout.{elementCount, nameCount};
 ghost use Rattle.layout.specs.Lawful.{LawfulSheet};
 ghost use Rattle.layout.specs.Encoding.{sheetOf};
 ghost use Rattle.sheet.specs.Opening.{Opened};

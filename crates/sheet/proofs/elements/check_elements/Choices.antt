@@ -1,7 +1,6 @@
 use Rattle.layout.specs.Layout.{regionAt}
 use mathlib.Core.Path.{_≡_}
-use Prim.Native.Nat.{ℕ, _≤_}
-use lib.ListN.{length}
+use Prim.Native.Nat.{_≤_}
 use Rattle.layout.specs.Lawful.{RightElement, used}
 use Rattle.sheet.specs.Opening.{Each}
 use Rattle.sheet.specs.Stack.{Stack, lastStart}

@@ -1,5 +1,5 @@
 use mathlib.Core.Path.{_≡_, refl, ap}
-use Prim.Native.Nat.{ℕ, _+_, _-_, _<_}
+use Prim.Native.Nat.{_+_, _-_, _<_}
 use native.Mathlib.Omega.{arith}
 use Rattle.tree.specs.declared.element.Element.{Element}
 use Rattle.layout.specs.Layout.{elementCount}
@@ -22,6 +22,6 @@ loop-k-again c =
     let i = c .loop-k .inv in
     let x = ap (λ (r : Element). r .name) (c .read-element-name .ensures) in (
       i .0,
-      linked-other bs k m (c .read-element-name .result .name) h e x (c .loop-k .first) (i .2) (c .loop-k .wrong) (c .if-name-lt1024 .left) (i .1),
-      firsts-other bs k m (c .read-element-name .result .name) h e x (c .loop-k .first) (i .2) (c .if-name-lt1024 .left),
+      linked-other bs k m (c .read-element-name .result .name) h e x (c .loop-k .first) (i .2) (c .loop-k .wrong) (c .if-name-lt-MOST-NAMES .left) (i .1),
+      firsts-other bs k m (c .read-element-name .result .name) h e x (c .loop-k .first) (i .2) (c .if-name-lt-MOST-NAMES .left),
     )

@@ -1,4 +1,4 @@
-use mathlib.Core.Path.{_≡_, refl, sym, ap, _∙_}
+use mathlib.Core.Path.{_≡_, refl, sym}
 use mathlib.Core.List.{List, map}
 use Prim.Native.Nat.{ℕ, _+_, _*_}
 use native.Mathlib.Omega.{arith}
@@ -7,7 +7,6 @@ use lib.ListN.{length, getD}
 use Rattle.std.proofs.shelf.Lists.{length-map}
 use Rattle.std.specs.declared.result.Result.the-variants.{Ok}
 use Rattle.tree.specs.declared.element.Element.{Element}
-use Rattle.layout.specs.Encoding.{encoded}
 use Rattle.layout.proofs.Tables.{length-encoded}
 use Rattle.sheet.specs.Writing.{fieldsFit}
 use Rattle.sheet.proofs.Fields.{Roomy, roomy, encodes-short, encodes-whole}
@@ -31,9 +30,10 @@ returns-then-out-total c =
     let n = length-map xs now in
     let l = length-encoded es (map now xs) in
     let total = 32 + 16 * length es + 12 * length xs + c .joint-length-bytes .result in
-    record
-      { answer = encodes-short es (map now xs) (length (c .args .out .now)) total tt (c .in-Continue-check-fields .ensures tt) (omega (arith, c .joint-length-bytes .ensures .is)) (omega arith)
-      ; buffer = refl }
+    record {
+      answer = encodes-short es (map now xs) (length (c .args .out .now)) total tt (c .in-Continue-check-fields .ensures tt) (omega (arith, c .joint-length-bytes .ensures .is)) (omega arith);
+      buffer = refl;
+    }
 
 pub cast-names : need.cast-names
 cast-names c =
@@ -63,9 +63,10 @@ returns c =
     let r = fits es xs (c .in-Continue-check-fields .ensures tt) in
     let total = 32 + 16 * length es + 12 * length xs + c .joint-length-bytes .result in
     let w = sheet-written es ts (λ j. getD (c .put-elements-first .result) j 0) (length xs) (c .joint-length-bytes .result)
-      (c .args .out .now) (c .put-header .last .out) (c .put-elements-first .last .out) (c .put-names .last .out) (c .put-texts .last .out)
-      (omega arith) (omega (arith, r .0 .names, r .1)) (c .put-elements-first .ensures .first) (sym (r .1)) (c .joint-length-bytes .ensures .is)
-      (c .put-header .ensures) (c .put-elements-first .ensures .puts) (c .put-names .ensures) (c .put-texts .ensures) (omega arith) (omega arith) in
-    record
-      { answer = encodes-whole es ts (length (c .args .out .now)) total tt (c .in-Continue-check-fields .ensures tt) (w .0) (omega arith)
-      ; buffer = w .1 }
+    (c .args .out .now) (c .put-header .last .out) (c .put-elements-first .last .out) (c .put-names .last .out) (c .put-texts .last .out)
+    (omega arith) (omega (arith, r .0 .names, r .1)) (c .put-elements-first .ensures .first) (sym (r .1)) (c .joint-length-bytes .ensures .is)
+    (c .put-header .ensures) (c .put-elements-first .ensures .puts) (c .put-names .ensures) (c .put-texts .ensures) (omega arith) (omega arith) in
+    record {
+      answer = encodes-whole es ts (length (c .args .out .now)) total tt (c .in-Continue-check-fields .ensures tt) (w .0) (omega arith);
+      buffer = w .1;
+    }

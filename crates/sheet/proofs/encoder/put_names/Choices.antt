@@ -1,6 +1,6 @@
 use mathlib.Core.List.{List, map}
 use Prim.Native.Nat.{ℕ, _+_, _*_, _≤_}
-use lib.ListN.{length, getD, drop}
+use lib.ListN.{getD, drop}
 use denote.Ref.{now}
 use Rattle.layout.specs.Encoding.{nameTable}
 use Rattle.sheet.specs.Writing.{Puts}

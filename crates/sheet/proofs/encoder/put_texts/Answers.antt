@@ -1,12 +1,10 @@
-use mathlib.Core.Path.{_≡_, sym, ap, subst}
-use mathlib.Core.List.{List, [], map}
-use Prim.Native.Nat.{ℕ, _+_, _<_}
+use mathlib.Core.Path.{sym, ap}
+use mathlib.Core.List.{[], map}
+use Prim.Native.Nat.{_+_}
 use native.Mathlib.Omega.{arith}
 use denote.Ref.{now}
 use lib.ListN.{length, getD}
 use Rattle.std.proofs.shelf.Lists.{length-map, getD-map, drop-all}
-use Rattle.layout.specs.Encoding.{joint}
-use Rattle.sheet.specs.Writing.{Puts}
 use Rattle.layout.proofs.Tables.{length-joint-more}
 use Rattle.sheet.proofs.Parts.{text-more}
 use Rattle.sheet.proofs.Puts.{puts-none}

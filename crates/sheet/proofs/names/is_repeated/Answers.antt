@@ -1,10 +1,9 @@
-use mathlib.Core.Path.{_≡_, sym, ap, _∙_}
+use mathlib.Core.Path.{sym, ap, _∙_}
 use native.Mathlib.Omega.{arith}
 use borrow.Author.Count.{below-more}
 use lib.Dec.{lit<}
 use Rattle.std.proofs.shelf.Equals.{matches-decides}
 use Rattle.std.proofs.shelf.Tests.{both-ways}
-use Rattle.layout.specs.Layout.{nameText}
 use Rattle.sheet.specs.Links.{keyOf}
 use Rattle.sheet.proofs.names.is_repeated.Needs as need
 use Rattle.sheet.proofs.names.is_repeated.Needs.{else-keys-i·by·then-keys-i·else-eq, else-keys-i·by·else-keys-i}
