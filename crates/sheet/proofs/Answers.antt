@@ -1,4 +1,4 @@
--- The laws of what writing and opening answer.
+-- The laws of what writing, opening and a view answer.
 use mathlib.Core.Path.{_≡_, refl, sym, ap, _∙_}
 use mathlib.Core.Bool.{cond}
 use mathlib.Core.List.{List}
@@ -9,16 +9,17 @@ use lib.Dec.{ltb, lit<}
 use lib.ListN.{length}
 use Rattle.std.specs.declared.result.Result.{Result}
 use Rattle.std.specs.declared.result.Result.the-variants.{Ok, Err}
-use Rattle.std.proofs.shelf.Tests.{cases-order}
+use Rattle.std.proofs.shelf.Tests.{cases-order, lt-ltb, cond-true}
 use Rattle.markup.specs.declared.fault.Fault.{Fault}
 use Rattle.markup.specs.declared.fault.Refusal.the-variants.{SheetWontFit, HeaderField, ElementRecord, NameRecord}
 use Rattle.markup.specs.Faults.{fault, andThen}
-use Rattle.layout.specs.Layout.{elementCount, elementOffset, nameOffset}
+use Rattle.layout.specs.Layout.{elementCount, elementOffset, nextAt, nameAt, nameOffset}
 use Rattle.layout.specs.Lawful.{RightHeader, RightElement}
 use Rattle.layout.specs.Encoding.{sheetOf}
 use Rattle.layout.proofs.Encoded.{few-elements, named-below, names-short, sheet-reads-back}
 use Rattle.sheet.specs.Opening.{FirstWrong, Each, Sized, WrongLength, WrongHeader, WrongElement, WrongName, Refused}
-use Rattle.sheet.specs.Laws.{Lawful-trees-are-encoded, Encodings-open, Opening-has-one-answer}
+use Rattle.sheet.specs.Viewing.{nextIn, firstIn}
+use Rattle.sheet.specs.Laws.{Lawful-trees-are-encoded, Encodings-open, Opening-has-one-answer, Chains-follow-names}
 use Rattle.sheet.proofs.Fields.{fields-fit}
 use Rattle.sheet.proofs.Opening.{refused-unlawful}
 
@@ -102,3 +103,15 @@ opening-has-one-answer bs (Ok u) (Ok v) a b = refl
 opening-has-one-answer bs (Ok u) (Err g) a b = absurd (refused-unlawful bs g b a)
 opening-has-one-answer bs (Err f) (Ok v) a b = absurd (refused-unlawful bs f a b)
 opening-has-one-answer bs (Err f) (Err g) a b = ap Err (one-refusal bs f g a b)
+
+-- What a view tells of a lawful sheet.
+
+pub chains-follow-names : Chains-follow-names
+chains-follow-names bs law = (
+  λ k h.
+      let e : nextIn bs k ≡ nextAt bs k = cond-true _ _ _ (lt-ltb _ _ h) in
+      rw e (law .elements k h .numbers .next),
+  λ j h.
+      let e : firstIn bs j ≡ nameAt bs j .first = cond-true _ _ _ (lt-ltb _ _ h) in
+      rw e (law .names j h .has, law .names j h .first),
+)

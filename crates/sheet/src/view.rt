@@ -1,9 +1,9 @@
 // A view of a lawful sheet.
 ghost use mathlib.Core.Path.{_≡_};
-ghost use mathlib.Core.Bool.{cond};
+ghost use mathlib.Core.Bool.{true, cond};
 ghost use Rattle.std.specs.Orderings.{Decides};
 ghost use Rattle.std.specs.Results.{isOk};
-ghost use Rattle.layout.specs.Layout.{elementCount, nameCount};
+ghost use Rattle.layout.specs.Layout.{elementCount, nameCount, treeOf};
 ghost use Rattle.layout.specs.Lawful.{LawfulSheet};
 ghost use Rattle.layout.specs.Encoding.{sheetOf};
 ghost use Rattle.sheet.specs.Opening.{Opened};
@@ -34,10 +34,11 @@ impl<'b> SheetView<'b> {
         SheetView { bytes: FIRST }
     }
 
-    // Turns the view to the given bytes where they are a lawful sheet. Else the fault is what is wrong first, and the
-    // view stays as it was.
+    // Turns the view to the given bytes where they are a lawful sheet, which is then the sheet of the tree that it shows.
+    // Else the fault is what is wrong first, and the view stays as it was.
     pub fn open(&mut self, bytes: &'b [u8]) -> Result<(), Fault>
         ensures answer { λ r. ⌜ Opened (now (bytes .entry)) r ⌝ }
+        ensures whole { λ r. ⌜ (isOk r ≡ true → now (bytes .entry) ≡ sheetOf (treeOf (now (bytes .entry)))) ⌝ }
         ensures granted { λ r. ⌜ Decides (isOk r) (LawfulSheet (now (bytes .entry))) ⌝ }
         ensures shows { λ r. ⌜ now (self .exit) .bytes .now ≡ cond (isOk r) (now (bytes .entry)) (now (self .entry) .bytes .now) ⌝ }
     {
