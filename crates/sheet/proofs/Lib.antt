@@ -8,4 +8,4 @@ pub mod Links
 pub mod Naming
 pub mod Opening
 pub mod First
-pub mod Answers
+pub mod Promises

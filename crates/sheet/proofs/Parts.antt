@@ -50,20 +50,20 @@ module _ (es : List Element) (m : ℕ) (past : length es ≤ m) where
 
 -- element k, from the back, where those from m on are done
 module _ (es : List Element) (k m : ℕ) (h : k < length es) (next : m ≡ k + 1) where
-  pub seek-set : (latest : List ℕ) (i : ℕ) → length latest ≡ 1024 → i ≡ getD es k blank .name
-      → ((n : ℕ) → n < 1024 → getD latest n 0 ≡ seek n (drop m es) m)
-      → (n : ℕ) → n < 1024 → getD (set latest i k) n 0 ≡ seek n (drop k es) k
-  seek-set latest i l p inv n b =
+  pub seek-set : (nearest : List ℕ) (i : ℕ) → length nearest ≡ 1024 → i ≡ getD es k blank .name
+      → ((n : ℕ) → n < 1024 → getD nearest n 0 ≡ seek n (drop m es) m)
+      → (n : ℕ) → n < 1024 → getD (set nearest i k) n 0 ≡ seek n (drop k es) k
+  seek-set nearest i l p inv n b =
       ⊎-elim
       (λ (e : n ≡ i).
       let q : eqb (getD es k blank .name) n ≡ true = eq-eqb (getD es k blank .name) n (sym p ∙ sym e) in
-      let g : getD (set latest i k) n 0 ≡ k = rw e (getD-set-same latest i k 0 (omega arith)) in
+      let g : getD (set nearest i k) n 0 ≡ k = rw e (getD-set-same nearest i k 0 (omega arith)) in
       let r : seek n (drop k es) k ≡ k = seek-more es k m h next n ∙ cond-true _ _ _ q in
       g ∙ sym r)
       (λ (ne : n ≢ i).
       let q : eqb (getD es k blank .name) n ≡ false = ne-eqb (getD es k blank .name) n (λ x. ne (sym x ∙ sym p)) in
       let r : seek n (drop k es) k ≡ seek n (drop m es) m = seek-more es k m h next n ∙ cond-false _ _ _ q in
-      getD-set-other latest i n k 0 ne ∙ (inv n b ∙ sym r))
+      getD-set-other nearest i n k 0 ne ∙ (inv n b ∙ sym r))
       (cases-eq n i)
 
   pub table-more : (s s₁ s₂ : List ℕ) (v : ℕ) → v ≡ seek (getD es k blank .name) (drop m es) m

@@ -1,4 +1,4 @@
-use Rattle.sheet.proofs.Answers.{chains-follow-names}
+use Rattle.sheet.proofs.Promises.{chains-follow-names}
 use Rattle.sheet.proofs.laws.chains_follow_names.Needs as need
 
 pub returns : need.returns

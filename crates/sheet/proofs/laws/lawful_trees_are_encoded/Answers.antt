@@ -1,4 +1,4 @@
-use Rattle.sheet.proofs.Answers.{lawful-trees-are-encoded}
+use Rattle.sheet.proofs.Promises.{lawful-trees-are-encoded}
 use Rattle.sheet.proofs.laws.lawful_trees_are_encoded.Needs as need
 
 pub returns : need.returns

@@ -3,18 +3,18 @@ use mathlib.Core.Path.{_≡_, refl, sym, ap, _∙_}
 use mathlib.Core.Bool.{cond}
 use mathlib.Core.List.{List}
 use mathlib.Core.Logic.{_⊎_, inl, inr, ⊎-elim}
-use Prim.Native.Nat.{ℕ, _*_, _<_}
+use Prim.Native.Nat.{ℕ, _*_, _<_, _≤_}
 use native.Mathlib.Omega.{arith}
 use lib.Dec.{ltb, lit<}
 use lib.ListN.{length}
 use Rattle.std.specs.declared.result.Result.{Result}
 use Rattle.std.specs.declared.result.Result.the-variants.{Ok, Err}
-use Rattle.std.proofs.shelf.Tests.{cases-order, lt-ltb, cond-true}
+use Rattle.std.proofs.shelf.Tests.{cases-order, lt-ltb, ltb-true, cond-true, cond-both}
 use Rattle.markup.specs.declared.fault.Fault.{Fault}
 use Rattle.markup.specs.declared.fault.Refusal.the-variants.{SheetWontFit, HeaderField, ElementRecord, NameRecord}
 use Rattle.markup.specs.Faults.{fault, andThen}
-use Rattle.layout.specs.Layout.{elementCount, elementOffset, nextAt, nameAt, nameOffset}
-use Rattle.layout.specs.Lawful.{RightHeader, RightElement}
+use Rattle.layout.specs.Layout.{elementCount, elementOffset, nextAt, nameCount, nameAt, nameOffset}
+use Rattle.layout.specs.Lawful.{RightHeader, RightElement, LawfulSheet}
 use Rattle.layout.specs.Encoding.{sheetOf}
 use Rattle.layout.proofs.Encoded.{few-elements, named-below, names-short, sheet-reads-back}
 use Rattle.sheet.specs.Opening.{FirstWrong, Each, Sized, WrongLength, WrongHeader, WrongElement, WrongName, Refused}
@@ -22,6 +22,7 @@ use Rattle.sheet.specs.Viewing.{nextIn, firstIn}
 use Rattle.sheet.specs.Laws.{Lawful-trees-are-encoded, Encodings-open, Opening-has-one-answer, Chains-follow-names}
 use Rattle.sheet.proofs.Fields.{fields-fit}
 use Rattle.sheet.proofs.Opening.{refused-unlawful}
+use Rattle.sheet.proofs.Props.{lawful-of}
 
 pub lawful-trees-are-encoded : Lawful-trees-are-encoded
 lawful-trees-are-encoded t law room =
@@ -115,3 +116,15 @@ chains-follow-names bs law = (
       let e : firstIn bs j ≡ nameAt bs j .first = cond-true _ _ _ (lt-ltb _ _ h) in
       rw e (law .names j h .has, law .names j h .first),
 )
+
+-- no number that a view tells is past the count of elements
+module _ (bs : List ℕ) (law : ∥ LawfulSheet bs ∥₁) where
+  pub next-within : (k : ℕ) → nextIn bs k ≤ elementCount bs
+  next-within k =
+      cond-both (ltb k (elementCount bs)) (nextAt bs k) (elementCount bs) (λ n. n ≤ elementCount bs)
+      (λ e. lawful-of bs law .elements k (ltb-true _ _ e) .numbers .next .within) (λ e. omega arith)
+
+  pub first-within : (j : ℕ) → firstIn bs j ≤ elementCount bs
+  first-within j =
+      cond-both (ltb j (nameCount bs)) (nameAt bs j .first) (elementCount bs) (λ n. n ≤ elementCount bs)
+      (λ e. lawful-of bs law .names j (ltb-true _ _ e) .first .within) (λ e. omega arith)
