@@ -11,7 +11,7 @@ use Rattle.std.proofs.shelf.Lists.{nil-from-length}
 use Rattle.std.proofs.shelf.Tests.{cases-lt}
 use Rattle.tree.specs.declared.element.Element.{Element}
 use Rattle.tree.specs.Tree.{Tree, FirstUses}
-use Rattle.tree.proofs.Trees.{uses-grow}
+use Rattle.tree.proofs.Uses.{uses-rise}
 use Rattle.book.specs.Document.{Node, position, intern, numbered, named, indexed}
 use Rattle.book.specs.Reading.{Different}
 use Rattle.book.specs.Answer.{nodeOf, nodesOf}
@@ -98,7 +98,7 @@ module _ (N : List (List ℕ)) (different : Different N) where
       (refl, sym (e ∙ ap (λ l. M ++ l) nil ∙ append-nil M))
   renumber (x ∷ es) M [] e h =
       let len : length N ≡ length M = ap (λ l. length l) (e ∙ append-nil M) in
-      let grow = uses-grow (max (length M) (x .name + 1)) es (length N) (h .1) in
+      let grow = uses-rise es (max (length M) (x .name + 1)) (length N) (h .1) in
       let lt : x .name < length M = omega arith in
       let same : max (length M) (x .name + 1) ≡ length M = omega arith in
       let p = placed M [] e (x .name) (omega arith) (omega arith) in

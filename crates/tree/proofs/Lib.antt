@@ -1,2 +1,2 @@
 pub mod Books
-pub mod Trees
+pub mod Uses

@@ -7,7 +7,7 @@ use Rattle.std.specs.shelf.Lists.{All}
 use Rattle.std.specs.Of.Vec.{vec-items}
 use Rattle.std.specs.Vec.{made}
 use Rattle.tree.specs.declared.element.Element.{Element}
-use Rattle.tree.proofs.Trees.{names-known}
+use Rattle.tree.proofs.Uses.{names-known}
 use Rattle.book.specs.Parts.{bytesOf}
 use Rattle.book.specs.Views.{treeOf}
 use Rattle.report.specs.Lines.{endLine}

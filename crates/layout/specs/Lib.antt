@@ -1,0 +1,4 @@
+pub mod Layout
+pub mod Lawful
+pub mod Encoding
+pub mod Laws

@@ -1,0 +1,11 @@
+pub mod Props
+pub mod Sizes
+pub mod Puts
+pub mod Parts
+pub mod Fields
+pub mod Stacks
+pub mod Links
+pub mod Naming
+pub mod Opening
+pub mod First
+pub mod Promises
