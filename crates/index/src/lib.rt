@@ -1,0 +1,4 @@
+// Indexes book texts: from text to sheet.
+mod indexer;
+
+pub use indexer::index;
