@@ -1,1 +1,2 @@
 mod Outlining
+mod Viewing
