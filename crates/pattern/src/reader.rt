@@ -1,0 +1,216 @@
+// The reader of a pattern text. A step holds branches and a branch is made of steps, so that `step` and `branch` call each other; at
+// each call the bytes left are fewer.
+ghost use mathlib.Core.Path.{_≡_};
+ghost use Prim.Native.Nat.{_+_, _<_, _≤_};
+ghost use denote.Ref.{now as held};
+ghost use lib.ListN.{length, set};
+ghost use Rattle.std.specs.declared.result.Result.the-variants.{Ok};
+ghost use Rattle.std.specs.Orderings.{When};
+ghost use Rattle.std.specs.Vec.{made};
+ghost use Rattle.markup.specs.Faults.{fault};
+ghost use Rattle.pattern.specs.Reading.{bracket, step as after};
+ghost use Rattle.pattern.specs.Moves.{Sees, Named, Stepped, Edged, Passed, Led, Ended};
+use super::node::Edge;
+use super::node::Mark;
+use super::node::Name;
+use super::node::Node;
+use super::twig::MOST_NODES;
+use markup::Fault;
+use markup::Refusal;
+use markup::name;
+
+// The most brackets that are open at once.
+const MOST_BRACKETS: usize = 8;
+
+// The next byte of the text is at `at`; the first `len` nodes have been read.
+#[derive(Drop)]
+pub(crate) struct Reader<'a> {
+    text: &'a [u8],
+    at: usize,
+    pub(crate) nodes: [Node; MOST_NODES],
+    pub(crate) len: usize,
+    ghost within: { at ≤ length (held text) },
+    ghost few: { len ≤ 16 },
+    ghost table: { length nodes ≡ 16 },
+}
+
+impl<'a> Reader<'a> {
+    // At the start of the text, with no node.
+    pub(crate) fn new(text: &'a [u8], blank: Node) -> Reader<'a>
+        ensures text { λ r. ⌜ held (r .text) ≡ now (text .entry) ⌝ }
+        ensures place { λ r. ⌜ r .at ≡ 0 ⌝ }
+        ensures len { λ r. ⌜ r .len ≡ 0 ⌝ }
+    {
+        Reader {
+            text,
+            at: 0,
+            nodes: [blank; MOST_NODES],
+            len: 0,
+        }
+    }
+
+    // The refusal, at the next byte.
+    fn refuse(&self, refusal: Refusal) -> Fault
+        ensures { λ r. ⌜ r ≡ fault refusal (now (self .entry) .at) ⌝ }
+    {
+        Fault {
+            refusal,
+            place: self.at,
+        }
+    }
+
+    // The lead: `/` or `//`.
+    pub(crate) fn lead(&mut self) -> Result<Mark, Fault>
+        ensures kept { λ _. ⌜ now (self .exit) .text ≡ now (self .entry) .text ⌝ }
+        ensures nodes { λ _. ⌜ now (self .exit) .nodes ≡ now (self .entry) .nodes ⌝ }
+        ensures len { λ _. ⌜ now (self .exit) .len ≡ now (self .entry) .len ⌝ }
+        ensures told { λ r. ⌜ Led (held (now (self .entry) .text)) (now (self .entry) .at) (now (self .exit) .at) r ⌝ }
+    {
+        self.expect(b'/')?;
+        if self.sees(b'/') {
+            self.at += 1;
+            return Ok(Mark::Any);
+        }
+        Ok(Mark::Top)
+    }
+
+    // The end of the text, where no edge and no branch follows.
+    pub(crate) fn end(&self) -> Result<(), Fault>
+        ensures { λ r. ⌜ Ended (held (now (self .entry) .text)) (now (self .entry) .at) r ⌝ }
+    {
+        if self.at < self.text.len() {
+            return Err(self.refuse(Refusal::Misfit));
+        }
+        Ok(())
+    }
+
+    // Whether the next byte is `b`.
+    fn sees(&self, b: u8) -> bool
+        ensures { λ r. ⌜ When r (Sees (held (now (self .entry) .text)) (now (self .entry) .at) b) (Sees (held (now (self .entry) .text)) (now (self .entry) .at) b → ⊥) ⌝ }
+    {
+        self.at < self.text.len() && self.text[self.at] == b
+    }
+
+    // The name here.
+    fn name(&mut self) -> Result<Name, Fault>
+        ensures kept { λ _. ⌜ now (self .exit) .text ≡ now (self .entry) .text ⌝ }
+        ensures nodes { λ _. ⌜ now (self .exit) .nodes ≡ now (self .entry) .nodes ⌝ }
+        ensures len { λ _. ⌜ now (self .exit) .len ≡ now (self .entry) .len ⌝ }
+        ensures told { λ r. ⌜ Named (held (now (self .entry) .text)) (now (self .entry) .len) (now (self .entry) .at) (now (self .exit) .at) r ⌝ }
+    {
+        if self.at >= self.text.len() || !name::starts_name(self.text[self.at]) {
+            return Err(self.refuse(Refusal::Misfit));
+        }
+        if self.len >= MOST_NODES {
+            return Err(self.refuse(Refusal::TooManySteps));
+        }
+        let mut bytes = [0; name::MOST_BYTES];
+        bytes[0] = self.text[self.at];
+        let mut len = 1;
+        self.at += 1;
+        while self.at < self.text.len() && name::in_name(self.text[self.at]) {
+            if len >= name::MOST_BYTES {
+                return Err(self.refuse(Refusal::PatternNameTooLong));
+            }
+            bytes[len] = self.text[self.at];
+            len += 1;
+            self.at += 1;
+        }
+        Ok(Name { bytes, len })
+    }
+
+    // One more node; its number.
+    fn push(&mut self, node: Node) -> usize
+        requires { ⌜ now self .len < 16 ⌝ }
+        ensures kept { λ _. ⌜ now (self .exit) .text ≡ now (self .entry) .text ⌝ }
+        ensures place { λ _. ⌜ now (self .exit) .at ≡ now (self .entry) .at ⌝ }
+        ensures number { λ r. ⌜ r ≡ now (self .entry) .len ⌝ }
+        ensures len { λ _. ⌜ now (self .exit) .len ≡ now (self .entry) .len + 1 ⌝ }
+        ensures nodes { λ _. ⌜ now (self .exit) .nodes ≡ set (now (self .entry) .nodes) (now (self .entry) .len) node ⌝ }
+    {
+        let number = self.len;
+        self.nodes[number] = node;
+        self.len = number + 1;
+        number
+    }
+
+    // Passes over `b`.
+    fn expect(&mut self, b: u8) -> Result<(), Fault>
+        ensures kept { λ _. ⌜ now (self .exit) .text ≡ now (self .entry) .text ⌝ }
+        ensures nodes { λ _. ⌜ now (self .exit) .nodes ≡ now (self .entry) .nodes ⌝ }
+        ensures len { λ _. ⌜ now (self .exit) .len ≡ now (self .entry) .len ⌝ }
+        ensures told { λ r. ⌜ Passed (held (now (self .entry) .text)) b (now (self .entry) .at) (now (self .exit) .at) r ⌝ }
+    {
+        if !self.sees(b) {
+            return Err(self.refuse(Refusal::Misfit));
+        }
+        self.at += 1;
+        Ok(())
+    }
+
+    // The edge after a step, whose `/` is seen: `/` or `//`.
+    fn edge(&mut self) -> Edge
+        requires { ⌜ Sees (held (now self .text)) (now self .at) 47 ⌝ }
+        ensures kept { λ _. ⌜ now (self .exit) .text ≡ now (self .entry) .text ⌝ }
+        ensures nodes { λ _. ⌜ now (self .exit) .nodes ≡ now (self .entry) .nodes ⌝ }
+        ensures len { λ _. ⌜ now (self .exit) .len ≡ now (self .entry) .len ⌝ }
+        ensures told { λ r. ⌜ Edged (held (now (self .entry) .text)) after (now (self .entry) .at) (now (self .exit) .at) (Ok r) ⌝ }
+    {
+        self.at += 1;
+        if self.sees(b'/') {
+            self.at += 1;
+            return Edge::Descendant;
+        }
+        Edge::Child
+    }
+
+    // The edge that a branch begins with: `.//`, or nothing for a child.
+    fn inner_edge(&mut self) -> Result<Edge, Fault>
+        ensures kept { λ _. ⌜ now (self .exit) .text ≡ now (self .entry) .text ⌝ }
+        ensures nodes { λ _. ⌜ now (self .exit) .nodes ≡ now (self .entry) .nodes ⌝ }
+        ensures len { λ _. ⌜ now (self .exit) .len ≡ now (self .entry) .len ⌝ }
+        ensures told { λ r. ⌜ Edged (held (now (self .entry) .text)) bracket (now (self .entry) .at) (now (self .exit) .at) r ⌝ }
+    {
+        if !self.sees(b'.') {
+            return Ok(Edge::Child);
+        }
+        self.at += 1;
+        self.expect(b'/')?;
+        self.expect(b'/')?;
+        Ok(Edge::Descendant)
+    }
+
+    // A name and its branches; the node's number.
+    fn step(&mut self, parent: usize, edge: Edge, depth: usize) -> Result<usize, Fault>
+        ensures kept { λ _. ⌜ now (self .exit) .text ≡ now (self .entry) .text ⌝ }
+        ensures told { λ r. ⌜ Stepped (held (now (self .entry) .text)) (now (self .entry) .nodes) (now (self .entry) .len) (now (self .entry) .at) (now (self .exit) .nodes) (now (self .exit) .len) (now (self .exit) .at) parent edge depth r ⌝ }
+        ensures stops { λ r. ⌜ made r (λ _. Sees (held (now (self .exit) .text)) (now (self .exit) .at) 91 → ⊥) ⌝ }
+    {
+        let name = self.name()?;
+        let number = self.push(Node { name, parent, edge });
+        while self.sees(b'[') {
+            if depth >= MOST_BRACKETS {
+                return Err(self.refuse(Refusal::TooManySteps));
+            }
+            self.at += 1;
+            let edge = self.inner_edge()?;
+            self.branch(number, edge, depth + 1)?;
+            self.expect(b']')?;
+        }
+        Ok(number)
+    }
+
+    // A step, then edges and steps; the last node's number.
+    pub(crate) fn branch(&mut self, parent: usize, edge: Edge, depth: usize) -> Result<usize, Fault>
+        ensures kept { λ _. ⌜ now (self .exit) .text ≡ now (self .entry) .text ⌝ }
+        ensures told { λ r. ⌜ Stepped (held (now (self .entry) .text)) (now (self .entry) .nodes) (now (self .entry) .len) (now (self .entry) .at) (now (self .exit) .nodes) (now (self .exit) .len) (now (self .exit) .at) parent edge depth r ⌝ }
+        ensures stops { λ r. ⌜ made r (λ _. (Sees (held (now (self .exit) .text)) (now (self .exit) .at) 91 → ⊥) × (Sees (held (now (self .exit) .text)) (now (self .exit) .at) 47 → ⊥)) ⌝ }
+    {
+        let mut last = self.step(parent, edge, depth)?;
+        while self.sees(b'/') {
+            let edge = self.edge();
+            last = self.step(last, edge, depth)?;
+        }
+        Ok(last)
+    }
+}
