@@ -93,9 +93,10 @@ module _ (l : Limits) (some : 0 < l .bytes) where
   by-edge [] e a h n bs vs ok few r = (onward e a (r .0), ap (λ x. openText false e ++ (a ++ x)) (r .1), ap (λ x. node a h e ∷ x) (r .2), (few, ok, r .3))
   by-edge (g ∷ hs) e a h n bs vs ok few r =
       let t = r .0 in
-      let num : n + 1 + size t ≡ n + (size t + 1) = omega arith in
-      (
-        onward e a t, r .1, r .2,
+      let num : n + 1 + size t ≡ n + (size t + 1) = omega arith in (
+        onward e a t,
+        r .1,
+        r .2,
         ap (λ x. openText false e ++ (a ++ x)) (r .3) ∙ sym (append-assoc (openText false e) _ (93 ∷ r .1) ∙ ap (λ x. openText false e ++ x) (append-assoc a (text-of t) (93 ∷ r .1))),
         ap (λ x. node a h e ∷ x) (r .4),
         (few, ok, r .5),
@@ -105,8 +106,7 @@ module _ (l : Limits) (some : 0 < l .bytes) where
   by-bracket : (hs : List ℕ) (e : Edge) (a : List ℕ) (h n : ℕ) (bs : List ℕ) (vs : List Vertex) → NameWithin (l .bytes) a → n < l .names → length hs < l .brackets → After (h ∷ hs) n (n + 1) bs vs → After hs h n (openText true e ++ (a ++ bs)) (node a h e ∷ vs)
   by-bracket [] e a h n bs vs ok few deep r =
       let t = r .0 in
-      let q = r .6 in
-      (
+      let q = r .6 in (
         branch e a t (q .0),
         ap (λ x. openText true e ++ (a ++ x)) (r .3 ∙ ap (λ x. text-of t ++ 93 ∷ x) (q .1)),
         ap (λ x. node a h e ∷ x) (r .4 ∙ ap (λ x. nodes-of n (n + 1) t ++ x) (q .2)),
@@ -117,9 +117,10 @@ module _ (l : Limits) (some : 0 < l .bytes) where
       let q = r .6 in
       let u = q .0 in
       let nt = nodes-of n (n + 1) t in
-      let num : n + 1 + size t + size u ≡ n + (size t + size u + 1) = omega arith in
-      (
-        branch e a t u, q .1, q .2,
+      let num : n + 1 + size t + size u ≡ n + (size t + size u + 1) = omega arith in (
+        branch e a t u,
+        q .1,
+        q .2,
         ap (λ x. openText true e ++ (a ++ x)) (r .3 ∙ ap (λ x. text-of t ++ 93 ∷ x) (q .3)) ∙ sym (shape (openText true e) a (text-of t) (text-of u) (93 ∷ q .1)),
         ap (λ x. node a h e ∷ x) (r .4 ∙ ap (λ x. nt ++ x) (q .4) ∙ sym (append-assoc nt (nodes-of h (n + 1 + size t) u) (q .2))),
         (deep, few, ok, subst (λ d. Within l d (n + 1) t) (sym (deeper (length (g ∷ hs)))) (r .5), q .5),
@@ -148,10 +149,10 @@ module _ (l : Limits) (some : 0 < l .bytes) where
     begins p e =
         on-cond k (nameFirst b) _ _ _ _
         (λ st. on-cond k (leb (l .names) (length ns)) _ _ _ _ (λ _ x. no-grant x) (λ few x.
-            let f = ih m₀ ns h hs (inside e (b ∷ [])) (k + 1) m vs x in
-            let g = f .fits in
-            let short : length (g .1) < l .bytes = omega (arith, room-size 1 (g .1) some (g .6)) in
-            (f .more, f .nodes, g .0, (b ∷ g .1, g .2, g .3, ap (λ y. b ∷ y) (g .4), g .5, record { some = omega arith; short = omega (arith, short); first = st; each = (first-is-byte b st, room-all 1 (g .1) (g .6)) }, leb-false (l .names) _ few, g .7))))
+        let f = ih m₀ ns h hs (inside e (b ∷ [])) (k + 1) m vs x in
+        let g = f .fits in
+        let short : length (g .1) < l .bytes = omega (arith, room-size 1 (g .1) some (g .6)) in
+        (f .more, f .nodes, g .0, (b ∷ g .1, g .2, g .3, ap (λ y. b ∷ y) (g .4), g .5, record { some = omega arith; short = omega (arith, short); first = st; each = (first-is-byte b st, room-all 1 (g .1) (g .6)) }, leb-false (l .names) _ few, g .7))))
         (λ _ x. no-grant x)
 
     closes : (hs′ : List ℕ) (p : Phase) → hs ≡ hs′ → feed k (close (at m₀ ns h hs p) hs′) (λ t. runIn l t (k + 1) bs) ≡ granted m vs → (more : List Vertex) × (vs ≡ ns ++ more) × (m₀ ≡ m) × After hs′ h (length ns) (93 ∷ bs) more
@@ -164,59 +165,59 @@ module _ (l : Limits) (some : 0 < l .bytes) where
     beyonds p =
         on-cond k (eqb b 47) _ _ _ _
         (λ is x.
-            let f = ih m₀ ns h hs slash (k + 1) m vs x in
-            let g = f .fits in
-            let n = g .4 in
-            (f .more, f .nodes, g .0, recast hs h (length ns) _ _ _ _ (ap (λ y. y ∷ bs) (eqb-true b 47 is) ∙ g .3 ∙ ap (λ y. openText false (g .1) ++ y) (n .3)) (n .4) (by-edge hs (g .1) (n .0) h (length ns) (n .1) (n .2) (n .5) (n .6) (n .7))))
+        let f = ih m₀ ns h hs slash (k + 1) m vs x in
+        let g = f .fits in
+        let n = g .4 in
+        (f .more, f .nodes, g .0, recast hs h (length ns) _ _ _ _ (ap (λ y. y ∷ bs) (eqb-true b 47 is) ∙ g .3 ∙ ap (λ y. openText false (g .1) ++ y) (n .3)) (n .4) (by-edge hs (g .1) (n .0) h (length ns) (n .1) (n .2) (n .5) (n .6) (n .7))))
         (λ _. on-cond k (eqb b 91) _ _ _ _
-          (λ is. on-cond k (leb (l .brackets) (length hs)) _ _ _ _ (λ _ x. no-grant x) (λ few x.
-            let f = ih m₀ ns h (h ∷ hs) bracket (k + 1) m vs x in
-            let g = f .fits in
-            let n = g .4 in
-            (f .more, f .nodes, g .0, recast hs h (length ns) _ _ _ _ (ap (λ y. y ∷ bs) (eqb-true b 91 is) ∙ g .3 ∙ ap (λ y. openText true (g .1) ++ y) (n .3)) (n .4) (by-bracket hs (g .1) (n .0) h (length ns) (n .1) (n .2) (n .5) (n .6) (leb-false (l .brackets) _ few) (n .7)))))
-          (λ _. on-cond k (eqb b 93) _ _ _ _
-            (λ is x.
-              let c = closes hs p refl x in
-              (c .0, c .1, c .2, recast hs h (length ns) _ _ _ _ (ap (λ y. y ∷ bs) (eqb-true b 93 is)) refl (c .3)))
-            (λ _ x. no-grant x)))
+        (λ is. on-cond k (leb (l .brackets) (length hs)) _ _ _ _ (λ _ x. no-grant x) (λ few x.
+        let f = ih m₀ ns h (h ∷ hs) bracket (k + 1) m vs x in
+        let g = f .fits in
+        let n = g .4 in
+        (f .more, f .nodes, g .0, recast hs h (length ns) _ _ _ _ (ap (λ y. y ∷ bs) (eqb-true b 91 is) ∙ g .3 ∙ ap (λ y. openText true (g .1) ++ y) (n .3)) (n .4) (by-bracket hs (g .1) (n .0) h (length ns) (n .1) (n .2) (n .5) (n .6) (leb-false (l .brackets) _ few) (n .7)))))
+        (λ _. on-cond k (eqb b 93) _ _ _ _
+        (λ is x.
+        let c = closes hs p refl x in
+        (c .0, c .1, c .2, recast hs h (length ns) _ _ _ _ (ap (λ y. y ∷ bs) (eqb-true b 93 is)) refl (c .3)))
+        (λ _ x. no-grant x)))
 
   module _ (bs : List ℕ) (ih : Ih bs) (m₀ : Mark) (ns : List Vertex) (h : ℕ) (hs : List ℕ) (k b : ℕ) (m : Mark) (vs : List Vertex) where
     nexts : (p : Phase) → feed k (nextIn l (at m₀ ns h hs p) p b) (λ t. runIn l t (k + 1) bs) ≡ granted m vs → Fit m₀ ns h hs p (b ∷ bs) m vs
     nexts nothing = on-cond k (eqb b 47) _ _ _ _
         (λ is x. let f = ih m₀ ns h hs lead (k + 1) m vs x in
-          record { more = f .more; nodes = f .nodes; fits = (f .fits .0, ap (λ y. y ∷ bs) (eqb-true b 47 is) ∙ f .fits .1, f .fits .2) })
+        record { more = f .more; nodes = f .nodes; fits = (f .fits .0, ap (λ y. y ∷ bs) (eqb-true b 47 is) ∙ f .fits .1, f .fits .2) })
         (λ _ x. no-grant x)
     nexts lead = on-cond k (eqb b 47) _ _ _ _
         (λ is x. let f = ih Any ns h hs (edge Child) (k + 1) m vs x in
-          record { more = f .more; nodes = f .nodes; fits = (bs, ap (λ y. 47 ∷ y ∷ bs) (eqb-true b 47 is) ∙ ap (λ y. leadText y ++ bs) (f .fits .0), f .fits .1) })
+        record { more = f .more; nodes = f .nodes; fits = (bs, ap (λ y. 47 ∷ y ∷ bs) (eqb-true b 47 is) ∙ ap (λ y. leadText y ++ bs) (f .fits .0), f .fits .1) })
         (λ _ x. let g = begins bs ih Top ns h hs k b m vs lead Child x in
-          record { more = g .0; nodes = g .1; fits = (b ∷ bs, ap (λ y. leadText y ++ b ∷ bs) (g .2), g .3) })
+        record { more = g .0; nodes = g .1; fits = (b ∷ bs, ap (λ y. leadText y ++ b ∷ bs) (g .2), g .3) })
     nexts (edge e) = λ x. let g = begins bs ih m₀ ns h hs k b m vs (edge e) e x in record { more = g .0; nodes = g .1; fits = (g .2, g .3) }
     nexts slash = on-cond k (eqb b 47) _ _ _ _
         (λ is x. let f = ih m₀ ns h hs (edge Descendant) (k + 1) m vs x in
-          record { more = f .more; nodes = f .nodes; fits = (f .fits .0, Descendant, bs, ap (λ y. 47 ∷ y ∷ bs) (eqb-true b 47 is), f .fits .1) })
+        record { more = f .more; nodes = f .nodes; fits = (f .fits .0, Descendant, bs, ap (λ y. 47 ∷ y ∷ bs) (eqb-true b 47 is), f .fits .1) })
         (λ _ x. let g = begins bs ih m₀ ns h hs k b m vs slash Child x in record { more = g .0; nodes = g .1; fits = (g .2, Child, b ∷ bs, refl, g .3) })
     nexts bracket = on-cond k (eqb b 46) _ _ _ _
         (λ is x. let f = ih m₀ ns h hs dot (k + 1) m vs x in
-          record { more = f .more; nodes = f .nodes; fits = (f .fits .0, Descendant, f .fits .1, (λ z. 91 ∷ eqb-true b 46 is z ∷ f .fits .2 z), f .fits .3) })
+        record { more = f .more; nodes = f .nodes; fits = (f .fits .0, Descendant, f .fits .1, (λ z. 91 ∷ eqb-true b 46 is z ∷ f .fits .2 z), f .fits .3) })
         (λ _ x. let g = begins bs ih m₀ ns h hs k b m vs bracket Child x in record { more = g .0; nodes = g .1; fits = (g .2, Child, b ∷ bs, refl, g .3) })
     nexts dot = on-cond k (eqb b 47) _ _ _ _
         (λ is x. let f = ih m₀ ns h hs dot-slash (k + 1) m vs x in
-          record { more = f .more; nodes = f .nodes; fits = (f .fits .0, f .fits .1, (λ z. eqb-true b 47 is z ∷ f .fits .2 z), f .fits .3) })
+        record { more = f .more; nodes = f .nodes; fits = (f .fits .0, f .fits .1, (λ z. eqb-true b 47 is z ∷ f .fits .2 z), f .fits .3) })
         (λ _ x. no-grant x)
     nexts dot-slash = on-cond k (eqb b 47) _ _ _ _
         (λ is x. let f = ih m₀ ns h hs (edge Descendant) (k + 1) m vs x in
-          record { more = f .more; nodes = f .nodes; fits = (f .fits .0, bs, ap (λ y. y ∷ bs) (eqb-true b 47 is), f .fits .1) })
+        record { more = f .more; nodes = f .nodes; fits = (f .fits .0, bs, ap (λ y. y ∷ bs) (eqb-true b 47 is), f .fits .1) })
         (λ _ x. no-grant x)
     nexts (inside e a) = on-cond k (nameByte b) _ _ _ _
         (λ is. on-cond k (leb (l .bytes) (length a)) _ _ _ _ (λ _ x. no-grant x) (λ few x.
-          let f = ih m₀ ns h hs (inside e (a ++ b ∷ [])) (k + 1) m vs x in
-          let g = f .fits in
-          record { more = f .more; nodes = f .nodes; fits = (g .0, b ∷ g .1, g .2, g .3, ap (λ y. b ∷ y) (g .4), g .5 ∙ ap (λ y. node y h e ∷ g .3) (append-assoc a (b ∷ []) (g .1)), (is, leb-false (l .bytes) _ few, subst (λ y. Room y (g .1)) (length-push a b) (g .6)), g .7) }))
+        let f = ih m₀ ns h hs (inside e (a ++ b ∷ [])) (k + 1) m vs x in
+        let g = f .fits in
+        record { more = f .more; nodes = f .nodes; fits = (g .0, b ∷ g .1, g .2, g .3, ap (λ y. b ∷ y) (g .4), g .5 ∙ ap (λ y. node y h e ∷ g .3) (append-assoc a (b ∷ []) (g .1)), (is, leb-false (l .bytes) _ few, subst (λ y. Room y (g .1)) (length-push a b) (g .6)), g .7) }))
         (λ _ x.
-          let v = node a h e in
-          let g = beyonds bs ih m₀ (ns ++ v ∷ []) (length ns) hs k b m vs step x in
-          record { more = v ∷ g .0; nodes = g .1 ∙ append-assoc ns (v ∷ []) (g .0); fits = (g .2, [], b ∷ bs, g .0, refl, ap (λ y. node y h e ∷ g .0) (sym (append-nil a)), tt, subst (λ n. After hs (length ns) n (b ∷ bs) (g .0)) (length-push ns v) (g .3)) })
+        let v = node a h e in
+        let g = beyonds bs ih m₀ (ns ++ v ∷ []) (length ns) hs k b m vs step x in
+        record { more = v ∷ g .0; nodes = g .1 ∙ append-assoc ns (v ∷ []) (g .0); fits = (g .2, [], b ∷ bs, g .0, refl, ap (λ y. node y h e ∷ g .0) (sym (append-nil a)), tt, subst (λ n. After hs (length ns) n (b ∷ bs) (g .0)) (length-push ns v) (g .3)) })
     nexts step = λ x. let g = beyonds bs ih m₀ ns h hs k b m vs step x in record { more = g .0; nodes = g .1; fits = (g .2, g .3) }
 
   -- at the end of the text

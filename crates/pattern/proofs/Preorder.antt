@@ -106,8 +106,8 @@ module _ (f : ℕ → ℕ) where
       let up : (n < n + 1) × Less (n + 1) (onto q path) = (omega arith, less-more n (n + 1) (onto q path) (omega arith) (less-onto q n path l)) in
       ⊎-elim
       (λ (h : n < c).
-          ordered vs (n ∷ onto q path) (n + 1) up (less-onto q n path l, falling-onto q path s)
-          ((λ b x y. absurd (omega (arith, x, y))), all-onto n q (g .0) path s u) (g .1) (p .1) c (omega arith) (omega (arith, lt)))
+      ordered vs (n ∷ onto q path) (n + 1) up (less-onto q n path l, falling-onto q path s)
+      ((λ b x y. absurd (omega (arith, x, y))), all-onto n q (g .0) path s u) (g .1) (p .1) c (omega arith) (omega (arith, lt)))
       (λ (h : c ≤ n). let e : n ≡ c = omega arith in subst Ordered e here)
       (cases-lt n c)
 
@@ -132,10 +132,10 @@ module _ (f : ℕ → ℕ) where
       ⊎-elim
       (λ (is : eqb p h ≡ true). on-here p h (r ∷ rs) path is)
       (λ (ne : eqb p h ≡ false).
-          let e : (p ≡ h → ⊥) = eqb-false p h ne in
-          let low : p ≤ r = omega (arith, u h (omega (arith, e, le)) (omega arith), path .0) in
-          let q = on-path p r rs (path .2) low (λ b x y. u b x (omega (arith, y, path .1))) in
-          (q .0, or-right _ _ (q .1), cond-false _ _ _ ne ∙ q .2, q .3))
+      let e : (p ≡ h → ⊥) = eqb-false p h ne in
+      let low : p ≤ r = omega (arith, u h (omega (arith, e, le)) (omega arith), path .0) in
+      let q = on-path p r rs (path .2) low (λ b x y. u b x (omega (arith, y, path .1))) in
+      (q .0, or-right _ _ (q .1), cond-false _ _ _ ne ∙ q .2, q .3))
       (cases-bool (eqb p h))
 
   in-preorder : (vs : List Vertex) (h : ℕ) (gs : List ℕ) → Path h gs → Gives (h + 1) vs → ((c : ℕ) → h < c → c < h + 1 + length vs → Ordered c) → Preorder (h ∷ gs) (h + 1) vs
@@ -145,7 +145,7 @@ module _ (f : ℕ → ℕ) where
       let w : (v .parent < n) × Clear (v .parent) n = subst (λ x. (x < n) × Clear x n) (g .0) (o n (omega arith) (omega arith)) in
       let q = on-path (v .parent) h gs path (omega (arith, w .0)) (λ b x y. w .1 b x (omega (arith, y))) in
       let next : Preorder (n ∷ v .parent ∷ q .0) (n + 1) vs =
-            in-preorder vs n (v .parent ∷ q .0) (g .0, w .0, q .3) (g .1) (λ c x y. o c (omega (arith, x)) (omega (arith, y))) in
+      in-preorder vs n (v .parent ∷ q .0) (g .0, w .0, q .3) (g .1) (λ c x y. o c (omega (arith, x)) (omega (arith, y))) in
       (q .1, subst (λ x. Preorder (n ∷ x) (n + 1) vs) (sym (q .2)) next)
 
 -- the parents of a list of nodes
@@ -164,9 +164,13 @@ gives-rest v vs = gives (v ∷ vs) vs 1 (λ i. let e : 1 + i ≡ suc i = omega a
 pub from-preorder : (v : Vertex) (vs : List Vertex) → v .parent ≡ 0 → v .edge ≡ Child → length vs < 16 → All (λ (x : Vertex). LawfulName (x .name)) (v ∷ vs) → Preorder (0 ∷ []) 1 vs → LawfulTwig (v ∷ vs)
 from-preorder v vs root edge few names p =
     let o : (c : ℕ) → 0 < c → c < length (v ∷ vs) → Ordered (parents (v ∷ vs)) c =
-          λ c x y. ordered (parents (v ∷ vs)) vs (0 ∷ []) 1 (omega arith, tt) (tt, tt) ((λ b l r. absurd (omega (arith, l, r))), tt) (gives-rest v vs) p c (omega arith) (omega arith) in
+    λ c x y. ordered (parents (v ∷ vs)) vs (0 ∷ []) 1 (omega arith, tt) (tt, tt) ((λ b l r. absurd (omega (arith, l, r))), tt) (gives-rest v vs) p c (omega arith) (omega arith) in
     record {
-      some = omega arith; few = omega arith; named = names; root = root; root-edge = edge;
+      some = omega arith;
+      few = omega arith;
+      named = names;
+      root = root;
+      root-edge = edge;
       lower = λ c x y. o c x y .0;
       runs = λ b c y l r. let x : 0 < c = omega (arith, r) in o c x y .1 b l r;
     }
@@ -204,10 +208,10 @@ module _ (nodes : List Vertex) (w : LawfulTwig nodes) where
   run-under (suc n) i k q j few l r =
       ⊎-elim
       (λ (x : i < j).
-          let p = parents nodes j in
-          let there : j < length nodes = omega (arith, q .there (omega arith)) in
-          let low : p < j = w .lower j (omega arith) there in
-          below p j (record { other = omega arith; there = there; hangs = refl }) (run-under n i k q p (omega arith) (q .clear j x r) (omega arith)))
+      let p = parents nodes j in
+      let there : j < length nodes = omega (arith, q .there (omega arith)) in
+      let low : p < j = w .lower j (omega arith) there in
+      below p j (record { other = omega arith; there = there; hangs = refl }) (run-under n i k q p (omega arith) (q .clear j x r) (omega arith)))
       (λ (x : j ≤ i). let e : i ≡ j = omega arith in subst (Under nodes i) e self)
       (cases-lt i j)
 

@@ -32,22 +32,22 @@ all-prop P h (x ∷ xs) = ×-prop (h x) (all-prop P h xs)
 
 name-prop : (a : List ℕ) → IsProp (LawfulName a)
 name-prop a x y i = record {
-    some = le-prop (x .some) (y .some) i;
-    short = le-prop (x .short) (y .short) i;
-    first = Bool-set _ _ (x .first) (y .first) i;
-    each = all-prop _ (λ b. Bool-set _ _) a (x .each) (y .each) i;
-  }
+  some = le-prop (x .some) (y .some) i;
+  short = le-prop (x .short) (y .short) i;
+  first = Bool-set _ _ (x .first) (y .first) i;
+  each = all-prop _ (λ b. Bool-set _ _) a (x .each) (y .each) i;
+}
 
 lawful-prop : (nodes : List Vertex) → IsProp (LawfulTwig nodes)
 lawful-prop nodes x y i = record {
-    some = le-prop (x .some) (y .some) i;
-    few = le-prop (x .few) (y .few) i;
-    named = all-prop _ (λ (v : Vertex). name-prop (v .name)) nodes (x .named) (y .named) i;
-    root = ℕ-set _ _ (x .root) (y .root) i;
-    root-edge = hedberg edge-discrete _ _ (x .root-edge) (y .root-edge) i;
-    lower = λ c p l. le-prop (x .lower c p l) (y .lower c p l) i;
-    runs = λ b c l p q. le-prop (x .runs b c l p q) (y .runs b c l p q) i;
-  }
+  some = le-prop (x .some) (y .some) i;
+  few = le-prop (x .few) (y .few) i;
+  named = all-prop _ (λ (v : Vertex). name-prop (v .name)) nodes (x .named) (y .named) i;
+  root = ℕ-set _ _ (x .root) (y .root) i;
+  root-edge = hedberg edge-discrete _ _ (x .root-edge) (y .root-edge) i;
+  lower = λ c p l. le-prop (x .lower c p l) (y .lower c p l) i;
+  runs = λ b c l p q. le-prop (x .runs b c l p q) (y .runs b c l p q) i;
+}
 
 -- every twig is lawful
 pub every : Every-twig-is-lawful

@@ -177,7 +177,9 @@ unfolding runIn
 by-move s i b bs r j (go t) e x ih =
     let q = ih t x in
     record {
-      pre = b ∷ q .pre; post = q .post; state = q .state;
+      pre = b ∷ q .pre;
+      post = q .post;
+      state = q .state;
       parts = ap (λ y. b ∷ y) (q .parts);
       number = omega (arith, q .number);
       along = λ l w more. ap (λ y. feed i y (λ u. runIn l u (i + 1) (q .pre ++ more))) (subst (λ y. AgreeAt l s (s .phase) y (nextIn l s (s .phase) b)) e (agree limits l w s (s .phase) b .so)) ∙ q .along l w more;
@@ -343,25 +345,23 @@ misfit-at : (t : List ℕ) (k : ℕ) (q : Stopped start 0 t Misfit k) (post : Li
 unfolding runIn
 misfit-at t k q [] is st =
     let whole : t ≡ q .pre ++ [] = q .parts ∙ ap (λ x. q .pre ++ x) is in
-    let len : length t ≡ k = omega (arith, ap length (whole ∙ append-nil (q .pre)), size-pre t _ k q) in
-    (
+    let len : length t ≡ k = omega (arith, ap length (whole ∙ append-nil (q .pre)), size-pre t _ k q) in (
       omega arith,
       before-begins t _ k q,
       (λ lt. absurd (omega (arith, lt, len))),
       (λ _ p.
-        let l = both limits (p .0) in
-        no-grant (sym (ap (runIn l start 0) whole ∙ q .along l (both-left limits (p .0)) [] ∙ st) ∙ grants-wider (p .0) l t (p .1) (both-right limits (p .0)) (p .2))),
+          let l = both limits (p .0) in
+          no-grant (sym (ap (runIn l start 0) whole ∙ q .along l (both-left limits (p .0)) [] ∙ st) ∙ grants-wider (p .0) l t (p .1) (both-right limits (p .0)) (p .2))),
     )
-misfit-at t k q (b ∷ post) is st =
-    (
-      omega (arith, inside-text t _ k q b post is st),
-      before-begins t _ k q,
-      (λ _ g.
-        let l = both limits (g .0) in
-        let w = both-left limits (g .0) in
-        no-grant (sym (on-from t _ k q b post is st l w (stop Misfit) (told t _ k q b post is st l w .0 refl) (g .1 .0)) ∙ grants-wider (g .0) l _ (g .1 .1) (both-right limits (g .0)) (g .1 .2))),
-      (λ le. absurd (omega (arith, le, inside-text t _ k q b post is st))),
-    )
+misfit-at t k q (b ∷ post) is st = (
+  omega (arith, inside-text t _ k q b post is st),
+  before-begins t _ k q,
+  (λ _ g.
+      let l = both limits (g .0) in
+      let w = both-left limits (g .0) in
+      no-grant (sym (on-from t _ k q b post is st l w (stop Misfit) (told t _ k q b post is st l w .0 refl) (g .1 .0)) ∙ grants-wider (g .0) l _ (g .1 .1) (both-right limits (g .0)) (g .1 .2))),
+  (λ le. absurd (omega (arith, le, inside-text t _ k q b post is st))),
+)
 
 many-at : (t : List ℕ) (k : ℕ) (q : Stopped start 0 t TooManySteps k) (post : List ℕ) → q .post ≡ post → Stops (q .state) k post TooManySteps
     → (k < length t) × ((names brackets : ℕ) × BeginsIn (record { names = names; brackets = brackets; bytes = 32 }) (take (k + 1) t)) × (BeginsIn limits (take (k + 1) t) → ⊥)
@@ -371,8 +371,7 @@ many-at t k q (b ∷ post) is st =
     let l = roomy s in
     let on = told t _ k q b post is st l (to-roomy s) .1 refl (record { names = omega arith; brackets = omega arith }) in
     let u = on .0 in
-    let room : length (u .nodes) < l .names = omega (arith, on .2) in
-    (
+    let room : length (u .nodes) < l .names = omega (arith, on .2) in (
       inside-text t _ k q b post is st,
       (l .names, l .brackets, goes-on t _ k q b post is st l (to-roomy s) (omega arith) u (on .1) (completes l (u .phase) (u .mark) (u .nodes) (u .holder) (u .brackets) room)),
       not-within t _ k q b post is st,
@@ -386,8 +385,7 @@ name-at t k q (b ∷ post) is st =
     let l = longer s in
     let a = told t _ k q b post is st l (to-longer s) .2 refl in
     let on = a .1 (omega arith) in
-    let u = on .0 in
-    (
+    let u = on .0 in (
       inside-text t _ k q b post is st,
       subst (BeginsIn limits) (sym (take-place t _ k q)) (begins limits s k (q .pre) (omega arith) (in-name-completes limits (s .phase) (s .mark) (s .nodes) (s .holder) (s .brackets) (a .0)) (λ w. q .along limits (same-limits limits) w)),
       (l .bytes, goes-on t _ k q b post is st l (to-longer s) (omega arith) u (on .1) (in-name-completes l (u .phase) (u .mark) (u .nodes) (u .holder) (u .brackets) (on .2))),

@@ -68,9 +68,9 @@ begun x y z a p e number size text nodes len named text′ place is len′ nodes
     let n : Node = record { name = a; parent = p; edge = e } in
     let size′ : length (vertices (x .nodes) (x .len)) ≡ x .len = length-vertices _ _ (omega (arith, named .1)) in
     let vs : vertices (x .nodes) (x .len) ++ vertexOf n ∷ [] ≡ vertices (z .nodes) (z .len) =
-          vertices-more (x .nodes) (x .len) n (omega (arith, named .1))
-          ∙ (λ i. vertices (set (sym nodes i) (sym len i) n) (sym len i + 1))
-          ∙ (λ i. vertices (sym nodes′ i) (sym len′ i)) in
+    vertices-more (x .nodes) (x .len) n (omega (arith, named .1))
+    ∙ (λ i. vertices (set (sym nodes i) (sym len i) n) (sym len i + 1))
+    ∙ (λ i. vertices (sym nodes′ i) (sym len′ i)) in
     named .2 (reached m (x .nodes) (x .len) p hs (edge e)) e size′
     ∙ (λ i. reads (now (sym (text′ ∙ text) i)) (record { mark = m; nodes = vs i; holder = (size′ ∙ sym len ∙ sym is) i; brackets = hs; phase = step }) (sym place i))
 

@@ -135,11 +135,13 @@ module _ (l : Limits) where
       let v = node a h e in
       let g = following m ns h hs e .on i (a ++ more′) in
       let r = named false e a m ns n h hs (g .0) more′ s (w .0) (w .1) (head-tail t more hm) in
-      let q = runs t m (ns ++ v ∷ []) (n + 1) n hs (r .0) more (length-push ns v ∙ ap (λ x. x + 1) s) hm (w .2) in
-      (q .0, q .1,
+      let q = runs t m (ns ++ v ∷ []) (n + 1) n hs (r .0) more (length-push ns v ∙ ap (λ x. x + 1) s) hm (w .2) in (
+        q .0,
+        q .1,
         ap (runIn l (at m ns h hs step) i) (append-assoc (openText false e) (a ++ text-of t) more ∙ ap (λ x. openText false e ++ x) (append-assoc a (text-of t) more))
-        ∙ g .1 ∙ r .1 ∙ q .2
-        ∙ (λ z. runIn l (at m (append-assoc ns (v ∷ []) (nodes-of n (n + 1) t) z) (q .0) hs step) (q .1) more))
+            ∙ g .1 ∙ r .1 ∙ q .2
+            ∙ (λ z. runIn l (at m (append-assoc ns (v ∷ []) (nodes-of n (n + 1) t) z) (q .0) hs step) (q .1) more),
+      )
   runs (branch e a t u) m ns n h hs i more s hm w =
       let more₁ = text-of u ++ more in
       let more′ = text-of t ++ 93 ∷ more₁ in
@@ -153,11 +155,13 @@ module _ (l : Limits) where
       let q = runs t m (ns ++ v ∷ []) (n + 1) n (h ∷ hs) (r .0) (93 ∷ more₁) s₁ refl w₁ in
       let c = closing m ((ns ++ v ∷ []) ++ vt) h (q .0) hs .on (q .1) more₁ in
       let s₂ : length ((ns ++ v ∷ []) ++ vt) ≡ n + 1 + size t = length-append (ns ++ v ∷ []) vt ∙ (λ z. s₁ z + length-nodes n (n + 1) t z) in
-      let p = runs u m ((ns ++ v ∷ []) ++ vt) (n + 1 + size t) h hs (c .0) more s₂ hm (w .4) in
-      (p .0, p .1,
+      let p = runs u m ((ns ++ v ∷ []) ++ vt) (n + 1 + size t) h hs (c .0) more s₂ hm (w .4) in (
+        p .0,
+        p .1,
         ap (runIn l (at m ns h hs step) i) (shape (openText true e) a (text-of t) (text-of u) more)
-        ∙ g .1 ∙ r .1 ∙ q .2 ∙ c .1 ∙ p .2
-        ∙ (λ z. runIn l (at m ((append-assoc (ns ++ v ∷ []) vt vu ∙ append-assoc ns (v ∷ []) (vt ++ vu)) z) (p .0) hs step) (p .1) more))
+            ∙ g .1 ∙ r .1 ∙ q .2 ∙ c .1 ∙ p .2
+            ∙ (λ z. runIn l (at m ((append-assoc (ns ++ v ∷ []) vt vu ∙ append-assoc ns (v ∷ []) (vt ++ vu)) z) (p .0) hs step) (p .1) more),
+      )
 
   -- the lead and the root's name
   abbrev after-lead : Mark → State

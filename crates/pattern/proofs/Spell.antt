@@ -68,7 +68,7 @@ name-short a = omega (arith, length-take (a .name .len - 0) (a .name .bytes), a 
 pub piece-at : (before : ℕ) (ns : List Node) (len : ℕ) (r : Node) (d : Vertex) (b : Bool) → before + 1 < len → len ≤ length ns
     → b ≡ later (getD ns (before + 1) r .parent) (drop (before + 1 + 1) (vertices ns len))
     → closeText (getD ns (before + 1) r .parent) before ++ openText b (getD ns (before + 1) r .edge) ++ nameOf (getD ns (before + 1) r .name)
-      ≡ piece before (getD (vertices ns len) (before + 1) d) (drop (before + 1 + 1) (vertices ns len))
+    ≡ piece before (getD (vertices ns len) (before + 1) d) (drop (before + 1 + 1) (vertices ns len))
 piece-at before ns len r d b h k e =
     ap (λ x. closeText (getD ns (before + 1) r .parent) before ++ openText x (getD ns (before + 1) r .edge) ++ nameOf (getD ns (before + 1) r .name)) e
     ∙ sym (ap (λ (v : Vertex). piece before v (drop (before + 1 + 1) (vertices ns len))) (getD-vertices ns len (before + 1) r d h k))

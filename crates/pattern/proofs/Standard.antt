@@ -97,9 +97,9 @@ within-std (branch e a t u) d n few deep ok =
     let g′ : 2 * d + size u ≤ 15 = omega arith in
     within-put e a (std t) (std u) d n (omega arith) (ok .0)
     (λ s.
-        let s′ : 0 < size u = subst (λ x. 0 < x) (size-std u) s in
-        let g″ : 2 * (d + 1) + size t ≤ 15 = omega arith in
-        (omega arith, within-std t (d + 1) (n + 1) f g″ (ok .1)))
+    let s′ : 0 < size u = subst (λ x. 0 < x) (size-std u) s in
+    let g″ : 2 * (d + 1) + size t ≤ 15 = omega arith in
+    (omega arith, within-std t (d + 1) (n + 1) f g″ (ok .1)))
     (within-std t d (n + 1) f g (ok .1))
     (subst (λ x. Within (upTo 7) d (n + 1 + x) (std u)) (sym (size-std t)) (within-std u d (n + 1 + size t) f′ g′ (ok .2)))
 
@@ -190,7 +190,7 @@ by-branch e a t u h k vs l s iht ihu =
     let some : later h (nt ++ ws) ≡ true = some-right h nt ws (first-child h (k + 1 + size t + 1) u vs s) in
     let far : h < k + 1 + size t = omega arith in
     let after = iht ∙ ap (λ x. x ++ (text-of (std t) ++ rest (k + 1 + size t) ws)) (no-close t (k + 1))
-          ∙ ap (λ x. text-of (std t) ++ x) (ihu ∙ ap (λ x. x ++ (text-of (std u) ++ rest (k + 1 + size t + size u) vs)) (a-close u h (k + 1 + size t) s far)) in
+    ∙ ap (λ x. text-of (std t) ++ x) (ihu ∙ ap (λ x. x ++ (text-of (std u) ++ rest (k + 1 + size t + size u) vs)) (a-close u h (k + 1 + size t) s far)) in
     ap (λ x. (c ++ openText (later h x) e ++ a) ++ rest (k + 1) x) (append-assoc nt (nodes-of h (k + 1 + 1 + size t) u) vs ∙ ap (λ x. nt ++ (nodes-of h x u ++ vs)) num)
     ∙ (λ z. (c ++ openText (some z) e ++ a) ++ after z)
     ∙ join-branch c (openText true e) a (text-of (std t)) (text-of (std u)) _
@@ -209,19 +209,19 @@ spelt (onward e a t) h k vs l f =
 spelt (branch e a t u) h k vs l f =
     let nu = nodes-of h (k + 1 + size t + 1) u in
     let apart : (q : ℕ) → k < q → q ≤ k + 1 + size t → later q (nu ++ vs) ≡ false =
-          λ q p r. none-append q nu vs (later-none u h (k + 1 + size t + 1) q (omega arith) (omega arith)) (f .there q p (omega arith)) in
+    λ q p r. none-append q nu vs (later-none u h (k + 1 + size t + 1) q (omega arith) (omega arith)) (f .there q p (omega arith)) in
     let alone : Spelt t (k + 1) (k + 1) vs =
-          spelt t (k + 1) (k + 1) vs (omega arith) (record { here = f .there (k + 1) (omega arith) (omega arith); there = λ q p r. f .there q (omega arith) (omega arith) }) in
+    spelt t (k + 1) (k + 1) vs (omega arith) (record { here = f .there (k + 1) (omega arith) (omega arith); there = λ q p r. f .there q (omega arith) (omega arith) }) in
     let before : Spelt t (k + 1) (k + 1) (nu ++ vs) =
-          spelt t (k + 1) (k + 1) (nu ++ vs) (omega arith) (record { here = apart (k + 1) (omega arith) (omega arith); there = λ q p r. apart q (omega arith) r }) in
+    spelt t (k + 1) (k + 1) (nu ++ vs) (omega arith) (record { here = apart (k + 1) (omega arith) (omega arith); there = λ q p r. apart q (omega arith) r }) in
     let behind : Spelt u h (k + 1 + size t) vs =
-          spelt u h (k + 1 + size t) vs (omega arith) (record { here = f .here; there = λ q p r. f .there q (omega arith) (omega arith) }) in
+    spelt u h (k + 1 + size t) vs (omega arith) (record { here = f .here; there = λ q p r. f .there q (omega arith) (omega arith) }) in
     let num : size t + 1 ≡ size t + 0 + 1 = omega arith in
     ⊎-elim
     (λ (is : u ≡ end). subst (λ x. Spelt (branch e a t x) h k vs) (sym is)
-        (ap (λ x. rest k ((node a h e ∷ x) ++ vs)) (append-nil (nodes-of (k + 1) (k + 1 + 1) t))
-         ∙ by-onward e a t h k vs l (f .here) alone
-         ∙ ap (λ x. closeText h k ++ ((openText false e ++ (a ++ text-of (std t))) ++ rest (k + x) vs)) num))
+    (ap (λ x. rest k ((node a h e ∷ x) ++ vs)) (append-nil (nodes-of (k + 1) (k + 1 + 1) t))
+    ∙ by-onward e a t h k vs l (f .here) alone
+    ∙ ap (λ x. closeText h k ++ ((openText false e ++ (a ++ text-of (std t))) ++ rest (k + x) vs)) num))
     (λ (s : 0 < size u). by-branch e a t u h k vs l s before behind)
     (none-or u)
 

@@ -45,8 +45,8 @@ pub other : (t : List ℕ) (s u : State) (i c : ℕ) (m : Move)
 other t s u i c m not-here by end =
     ⊎-elim
     (λ h. one t s i h
-        ∙ ap (λ x. feed i x (λ v. reads t v (i + 1))) (by (getD t i 0) ∙ ap (λ x. cond x m (nextIn limits u (u .phase) (getD t i 0))) (ne-eqb _ c (λ e. not-here (h, e))))
-        ∙ sym (one t u i h))
+    ∙ ap (λ x. feed i x (λ v. reads t v (i + 1))) (by (getD t i 0) ∙ ap (λ x. cond x m (nextIn limits u (u .phase) (getD t i 0))) (ne-eqb _ c (λ e. not-here (h, e))))
+    ∙ sym (one t u i h))
     (λ h. over t s i h ∙ end ∙ sym (over t u i h))
     (cases-lt i (length t))
 
@@ -59,7 +59,7 @@ pub stray : (t : List ℕ) (s : State) (i c : ℕ) (m : Move)
 stray t s i c m not-here by end =
     ⊎-elim
     (λ h. one t s i h
-        ∙ ap (λ x. feed i x (λ v. reads t v (i + 1))) (by (getD t i 0) ∙ ap (λ x. cond x m (stop Misfit)) (ne-eqb _ c (λ e. not-here (h, e)))))
+    ∙ ap (λ x. feed i x (λ v. reads t v (i + 1))) (by (getD t i 0) ∙ ap (λ x. cond x m (stop Misfit)) (ne-eqb _ c (λ e. not-here (h, e)))))
     (λ h. over t s i h ∙ end)
     (cases-lt i (length t))
 
@@ -95,8 +95,8 @@ module _ (t : List ℕ) (i : ℕ) where
   name-end f s e n =
       ⊎-elim
       (λ h. one t (to s (inside e n)) i h
-          ∙ ap (λ x. feed i (cond x (cond (leb 32 (length n)) (stop PatternNameTooLong) (go (to s (inside e (n ++ getD t i 0 ∷ []))))) (beyondIn limits (settle s e n) (getD t i 0))) (λ v. reads t v (i + 1))) (f h)
-          ∙ sym (one t (settle s e n) i h))
+      ∙ ap (λ x. feed i (cond x (cond (leb 32 (length n)) (stop PatternNameTooLong) (go (to s (inside e (n ++ getD t i 0 ∷ []))))) (beyondIn limits (settle s e n) (getD t i 0))) (λ v. reads t v (i + 1))) (f h)
+      ∙ sym (one t (settle s e n) i h))
       (λ h. over t (to s (inside e n)) i h ∙ sym (over t (settle s e n) i h))
       (cases-lt i (length t))
 
@@ -113,8 +113,8 @@ first-not t i k f h a = λ s. inner-first t i h (a .0) s ∙ ap Err (sym (a .1))
 pub second-not : (t t′ : List ℕ) (i j k : ℕ) (f : Fault) → Sees t i 46 → Sees t (i + 1) 47 × (j ≡ i + 1 + 1) → t′ ≡ t → (Sees t′ j 47 → ⊥) × (f ≡ fault Misfit j) → Edged t bracket i k (Err f)
 second-not t t′ i j k f h a e b =
     λ s. inner-second t i h (a .0) (λ h″. b .0 (subst (λ x. Sees x j 47) (sym e) (subst (λ x. Sees t x 47) (sym (a .1)) h″))) s
-        ∙ ap (λ x. refused Misfit x) (sym (a .1))
-        ∙ ap Err (sym (b .1))
+    ∙ ap (λ x. refused Misfit x) (sym (a .1))
+    ∙ ap Err (sym (b .1))
 
 -- within a name, on from place i with n bytes to place j with m bytes
 pub record NameSofar (t : List ℕ) (i : ℕ) (bytes : List ℕ) (n j : ℕ) (bytes′ : List ℕ) (m : ℕ) : Type 0 where
@@ -147,15 +147,15 @@ module _ (t t′ : List ℕ) (i : ℕ) (bytes : List ℕ) (n j : ℕ) (bytes′ 
       let more : m < length bytes′ = omega arith in
       let size : length (take m bytes′) < 32 = omega (arith, length-take-le m bytes′ (omega arith)) in
       let there : P t = λ s e. sofar .same s e
-            ∙ name-more t j s e (take m bytes′) (subst (λ x. j < length x) same-text h) (sym (subst (λ x. true ≡ nameByte (getD x j 0)) same-text a)) size
-            ∙ ap (λ x. reads t (to s (inside e x)) (j + 1)) (sym (take-more-set bytes′ m (getD t j 0) more)) in
+      ∙ name-more t j s e (take m bytes′) (subst (λ x. j < length x) same-text h) (sym (subst (λ x. true ≡ nameByte (getD x j 0)) same-text a)) size
+      ∙ ap (λ x. reads t (to s (inside e x)) (j + 1)) (sym (take-more-set bytes′ m (getD t j 0) more)) in
       record { same = subst P (sym same-text) there }
 
   pub sofar-long : 32 ≤ m → m ≤ 32 → j < length t′ → true ≡ nameByte (getD t′ j 0) → (s : State) (e : Edge) → reads t (to s (inside e (take n bytes))) i ≡ refused PatternNameTooLong j
   sofar-long much few h a s e =
       let size : 32 ≤ length (take m bytes′) = omega (arith, length-take-le m bytes′ (omega arith)) in
       sofar .same s e
-        ∙ name-long t j s e (take m bytes′) (subst (λ x. j < length x) same-text h) (sym (subst (λ x. true ≡ nameByte (getD x j 0)) same-text a)) size
+      ∙ name-long t j s e (take m bytes′) (subst (λ x. j < length x) same-text h) (sym (subst (λ x. true ≡ nameByte (getD x j 0)) same-text a)) size
 
   pub sofar-end : (j < length t′ → nameByte (getD t′ j 0) ≡ false) → (s : State) (e : Edge) → reads t (to s (inside e (take n bytes))) i ≡ reads t (settle s e (take m bytes′)) j
   sofar-end f s e = sofar .same s e ∙ name-end t j (subst (λ x. j < length x → nameByte (getD x j 0) ≡ false) same-text f) s e (take m bytes′)

@@ -55,18 +55,18 @@ preorder end h n gs qs vs l o k = subst (λ x. Preorder (qs ++ h ∷ gs) x vs) (
 preorder (onward e a t) h n gs qs vs l o k =
     let num : n + (size t + 1) ≡ n + 1 + size t = omega arith in
     let below : Preorder (n ∷ h ∷ gs) (n + 1) (nodes-of n (n + 1) t ++ vs) =
-          preorder t n (n + 1) (h ∷ gs) [] vs (omega arith) tt (λ qs′ o′.
-            subst (λ x. Preorder x (n + 1 + size t) vs) (append-assoc qs′ (n ∷ []) (h ∷ gs)) (subst (λ x. Preorder ((qs′ ++ n ∷ []) ++ h ∷ gs) x vs) num (k (qs′ ++ n ∷ []) (over-more h n qs′ l o′)))) in
+    preorder t n (n + 1) (h ∷ gs) [] vs (omega arith) tt (λ qs′ o′.
+    subst (λ x. Preorder x (n + 1 + size t) vs) (append-assoc qs′ (n ∷ []) (h ∷ gs)) (subst (λ x. Preorder ((qs′ ++ n ∷ []) ++ h ∷ gs) x vs) num (k (qs′ ++ n ∷ []) (over-more h n qs′ l o′)))) in
     (among-over qs h gs, subst (λ x. Preorder (n ∷ x) (n + 1) (nodes-of n (n + 1) t ++ vs)) (sym (onto-over qs h gs o)) below)
 preorder (branch e a t u) h n gs qs vs l o k =
     let nt = nodes-of n (n + 1) t in
     let nu = nodes-of h (n + 1 + size t) u in
     let num : n + (size t + size u + 1) ≡ n + 1 + size t + size u = omega arith in
     let behind : (qs′ : List ℕ) → Over h qs′ → Preorder (qs′ ++ h ∷ gs) (n + 1 + size t) (nu ++ vs) =
-          λ qs′ o′. preorder u h (n + 1 + size t) gs qs′ vs (omega arith) o′ (λ qs″ o″. subst (λ x. Preorder (qs″ ++ h ∷ gs) x vs) num (k qs″ o″)) in
+    λ qs′ o′. preorder u h (n + 1 + size t) gs qs′ vs (omega arith) o′ (λ qs″ o″. subst (λ x. Preorder (qs″ ++ h ∷ gs) x vs) num (k qs″ o″)) in
     let below : Preorder (n ∷ h ∷ gs) (n + 1) (nt ++ (nu ++ vs)) =
-          preorder t n (n + 1) (h ∷ gs) [] (nu ++ vs) (omega arith) tt (λ qs′ o′.
-            subst (λ x. Preorder x (n + 1 + size t) (nu ++ vs)) (append-assoc qs′ (n ∷ []) (h ∷ gs)) (behind (qs′ ++ n ∷ []) (over-more h n qs′ l o′))) in
+    preorder t n (n + 1) (h ∷ gs) [] (nu ++ vs) (omega arith) tt (λ qs′ o′.
+    subst (λ x. Preorder x (n + 1 + size t) (nu ++ vs)) (append-assoc qs′ (n ∷ []) (h ∷ gs)) (behind (qs′ ++ n ∷ []) (over-more h n qs′ l o′))) in
     (among-over qs h gs, subst (λ x. Preorder (n ∷ x) (n + 1) ((nt ++ nu) ++ vs)) (sym (onto-over qs h gs o)) (subst (Preorder (n ∷ h ∷ gs) (n + 1)) (sym (append-assoc nt nu vs)) below))
 
 -- a part of what holds of all
@@ -126,9 +126,9 @@ one-more (g ∷ gs) h n v vs p r =
     let t = r .0 in
     let u = q .0 in
     let nt = nodes-of n (n + 1) t in
-    let num : n + 1 + size t + size u ≡ n + (size t + size u + 1) = omega arith in
-    (
-      branch (v .edge) (v .name) t u, q .1,
+    let num : n + 1 + size t + size u ≡ n + (size t + size u + 1) = omega arith in (
+      branch (v .edge) (v .name) t u,
+      q .1,
       (λ z. node (v .name) (p z) (v .edge) ∷ (r .2 ∙ ap (λ x. nt ++ x) (q .2) ∙ sym (append-assoc nt (nodes-of h (n + 1 + size t) u) (q .1))) z),
       subst (λ x. Kids gs g x (q .1)) num (q .3),
     )
@@ -214,8 +214,7 @@ back w l =
 
 pub one-spelling : One-standard-spelling
 one-spelling w l =
-    let x = written (w .mark) (w .nodes) l in
-    (
+    let x = written (w .mark) (w .nodes) l in (
       record { derived = to-derives (upTo 7) _ (w .mark) (w .nodes) (x .derives); standard = to-standard (upTo 7) _ (w .mark) (w .nodes) (x .derives) (x .standard) },
       derived-size 7 _ (w .mark) (w .nodes) (x .derives),
       λ k t s. only-tail k (w .mark) t (w .nodes) (from-derives k t (w .mark) (w .nodes) (s .derived)) (from-standard k t (w .mark) (w .nodes) (s .derived) (s .standard)),

@@ -33,15 +33,15 @@ limits = upTo 8
 
 -- what was just read
 pub data Phase : Type 0 where
-  nothing : Phase                 -- no byte yet
-  lead : Phase                    -- the first `/`
-  edge : Edge → Phase             -- a lead or an edge, so that a name follows
-  slash : Phase                   -- the first `/` of an edge
-  bracket : Phase                 -- `[`
-  dot : Phase                     -- `[.`
-  dot-slash : Phase               -- `[./`
+  nothing : Phase  -- no byte yet
+  lead : Phase  -- the first `/`
+  edge : Edge → Phase  -- a lead or an edge, so that a name follows
+  slash : Phase  -- the first `/` of an edge
+  bracket : Phase  -- `[`
+  dot : Phase  -- `[.`
+  dot-slash : Phase  -- `[./`
   inside : Edge → List ℕ → Phase  -- an edge and these bytes of a name
-  step : Phase                    -- a name and what ended it, or `]`
+  step : Phase  -- a name and what ended it, or `]`
 
 -- the mark, the nodes so far, the node that the next one hangs on, and the nodes with an open bracket, the innermost first
 pub record State : Type 0 where
@@ -67,12 +67,12 @@ marked s m p = record { mark = m; nodes = s .nodes; holder = s .holder; brackets
 -- a name is complete: one node more, on which the next one hangs
 abbrev pub settle : State → Edge → List ℕ → State
 settle s e a = record {
-    mark = s .mark;
-    nodes = s .nodes ++ node a (s .holder) e ∷ [];
-    holder = length (s .nodes);
-    brackets = s .brackets;
-    phase = step;
-  }
+  mark = s .mark;
+  nodes = s .nodes ++ node a (s .holder) e ∷ [];
+  holder = length (s .nodes);
+  brackets = s .brackets;
+  phase = step;
+}
 
 -- a bracket opens on the node that would hold the next one
 abbrev pub opened : State → State

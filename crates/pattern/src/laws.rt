@@ -11,13 +11,11 @@ pub fn promises()
     ensures back { λ _. ⌜ Spellings-read-back ⌝ }
     ensures standard { λ _. ⌜ One-standard-spelling ⌝ }
     ensures same { λ _. ⌜ Same-spelling-same-twig ⌝ }
-{
-}
+{}
 
 // A text is refused where it ceases to be a pattern, or one within the limits.
 pub fn places()
     ensures misfit { λ _. ⌜ Misfit-is-where-no-pattern-goes-on ⌝ }
     ensures many { λ _. ⌜ Too-many-is-where-more-would-fit ⌝ }
     ensures name { λ _. ⌜ Name-too-long-is-where-longer-would-fit ⌝ }
-{
-}
+{}

@@ -33,8 +33,7 @@ branch-returns-in-Break-last-2 t c =
 
 pub branch-loop-self-again : need.branch-loop-self-again
 branch-loop-self-again t c =
-    let e = c .edge-edge .ensures in
-    (
+    let e = c .edge-edge .ensures in (
       search needs,
       omega (arith, c .in-Continue-last-2 .ensures tt .told .0, e .told .0),
       c .in-Continue-last-2 .ensures tt .stops,
@@ -65,14 +64,14 @@ step-returns-in-Break-name t c =
 
 pub step-returns-then-depth-ge-MOST-BRACKETS : need.step-returns-then-depth-ge-MOST-BRACKETS
 step-returns-then-depth-ge-MOST-BRACKETS t c = record {
-    kept = search needs;
-    told = λ m hs d.
-        start t (need.at·step-returns-then-depth-ge-MOST-BRACKETS t c .After-push-number) m hs
-        ∙ c .loop-self .inv .2 .same m hs d
-        ∙ opens-not (c .loop-self .self) m _ hs (c .loop-self-test .ensures tt) (omega (arith, d))
-        ∙ ap Err (sym (c .refuse .ensures));
-    stops = tt;
-  }
+  kept = search needs;
+  told = λ m hs d.
+      start t (need.at·step-returns-then-depth-ge-MOST-BRACKETS t c .After-push-number) m hs
+      ∙ c .loop-self .inv .2 .same m hs d
+      ∙ opens-not (c .loop-self .self) m _ hs (c .loop-self-test .ensures tt) (omega (arith, d))
+      ∙ ap Err (sym (c .refuse .ensures));
+  stops = tt;
+}
 
 pub step-returns-in-Break-edge : need.step-returns-in-Break-edge
 step-returns-in-Break-edge t c =
@@ -117,8 +116,7 @@ step-returns-in-Break-branch t c =
 pub step-loop-self-again : need.step-loop-self-again
 step-loop-self-again t c =
     let f = need.at·step-loop-self-again t c in
-    let e = c .expect .ensures in
-    (
+    let e = c .expect .ensures in (
       search needs,
       omega (arith, c .in-Continue-branch .ensures tt .told .0, c .in-Continue-edge .ensures tt .told .0, c .in-Continue-expect .ensures tt .told .1),
       record {
@@ -144,7 +142,7 @@ step-returns-in-Break-expect t c =
           start t (f .After-push-number) m hs
           ∙ c .loop-self .inv .2 .same m hs d
           ∙ enter t (f .In-Continue-edge) m hs d
-            ∙ cross t (f .In-Continue-branch) m hs d
+          ∙ cross t (f .In-Continue-branch) m hs d
           ∙ closes-not (c .branch-self .last .self) m _ hs _ (b .1) (b .0) (e .0)
           ∙ ap Err (sym (e .1)));
       stops = made-from-err _ _ (r .ensures .0);
@@ -152,10 +150,13 @@ step-returns-in-Break-expect t c =
 
 pub step-returns : need.step-returns
 step-returns t c = let kept : c .loop-self .self .text ≡ c .args .self .now .text = search needs in record {
-    kept = kept;
-    told = (omega (arith, c .in-Continue-name .ensures tt .told .0), λ m hs d.
+  kept = kept;
+  told = (
+    omega (arith, c .in-Continue-name .ensures tt .told .0),
+    λ m hs d.
         start t (need.at·step-returns t c .After-push-number) m hs
         ∙ c .loop-self .inv .2 .same m hs d
-        ∙ (λ z. reads (now (kept z)) (reached m (c .loop-self .self .nodes) (c .loop-self .self .len) (c .push-number .result) hs step) (c .loop-self .self .at)));
-    stops = c .loop-self-test .ensures tt;
-  }
+        ∙ (λ z. reads (now (kept z)) (reached m (c .loop-self .self .nodes) (c .loop-self .self .len) (c .push-number .result) hs step) (c .loop-self .self .at)),
+  );
+  stops = c .loop-self-test .ensures tt;
+}

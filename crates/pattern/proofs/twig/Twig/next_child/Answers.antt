@@ -17,10 +17,11 @@ loop-c-again c b l r h =
     ⊎-elim
     (λ (x : b < c .loop-c .c). c .loop-c .inv b l x h)
     (λ (x : c .loop-c .c ≤ b).
-        let e : b ≡ c .loop-c .c = omega (arith, r) in
-        elim (c .else-c-after .came) [
-          else-c-after·by·then-c-after·else-self-c w ↦ not-child (c .args .self .now) (c .loop-c .c) (w .index-self-c .result) (c .loop-c-test .taken) (c .args .i) (w .if-self-c .left) (subst (IsChild (shapeOf (c .args .self .now) .nodes) (c .args .i)) e h)
-        | else-c-after·by·else-c-after w ↦ absurd (omega (arith, l, e, w .if-c-after .left)) ])
+    let e : b ≡ c .loop-c .c = omega (arith, r) in
+    elim (c .else-c-after .came) [
+      | else-c-after·by·then-c-after·else-self-c w ↦ not-child (c .args .self .now) (c .loop-c .c) (w .index-self-c .result) (c .loop-c-test .taken) (c .args .i) (w .if-self-c .left) (subst (IsChild (shapeOf (c .args .self .now) .nodes) (c .args .i)) e h)
+      | else-c-after·by·else-c-after w ↦ absurd (omega (arith, l, e, w .if-c-after .left))
+    ])
     (cases-lt b (c .loop-c .c))
 
 pub returns : need.returns

@@ -18,8 +18,7 @@ loop-i-holds c =
     let size = length-vertices (w .nodes) (w .len) (omega (arith, w .few, w .table)) in
     let some : 0 < length (vertices (w .nodes) (w .len)) = omega (arith, size, w .some) in
     let name : take (a .name .len - 0) (a .name .bytes) ≡ getD (vertices (w .nodes) (w .len)) 0 (vertexOf r) .name =
-          name-part a ∙ ap (λ (v : Vertex). v .name) (sym (getD-vertices (w .nodes) (w .len) 0 r (vertexOf r) (w .some) (omega (arith, w .few, w .table)))) in
-    (
+    name-part a ∙ ap (λ (v : Vertex). v .name) (sym (getD-vertices (w .nodes) (w .len) 0 r (vertexOf r) (w .some) (omega (arith, w .few, w .table)))) in (
       rest-start (w .mark) (take (c .new-out .result .len) (c .new-out .result .bytes)) (take (c .put .last .self .len) (c .put .last .self .bytes)) _ (take (a .name .len - 0) (a .name .bytes)) (vertices (w .nodes) (w .len)) (vertexOf r) some (ap (λ n. take n (c .new-out .result .bytes)) (c .new-out .ensures)) (c .put .ensures .text ∙ ap (λ x. take (c .new-out .result .len) (c .new-out .result .bytes) ++ x) (c .lead-text .ensures .text)) (c .put-2 .ensures .text) name,
       omega (arith, c .new-out .ensures, c .put .ensures .len, c .put-2 .ensures .len, c .lead-text .ensures .short, name-short a),
     )
