@@ -8,8 +8,7 @@ use Rattle.pattern.specs.declared.twig.Twig.{Twig}
 use Rattle.pattern.specs.Shape.{Vertex, rootA, nodeAt, IsChild}
 use Rattle.pattern.specs.Table.{vertexOf}
 use Rattle.pattern.specs.Twig.{shapeOf}
-use Rattle.pattern.proofs.Ring.{length-vertices}
-use Rattle.pattern.proofs.Spell.{getD-vertices}
+use Rattle.pattern.proofs.Tables.{length-vertices, getD-vertices}
 
 module _ (w : Twig) where
   pub count : length (shapeOf w .nodes) ≡ w .len

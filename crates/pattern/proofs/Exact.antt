@@ -2,7 +2,7 @@
 use mathlib.Core.Path.{_≡_, refl, sym, ap, subst, _∙_}
 use mathlib.Core.List.{List, [], _∷_, _++_}
 use mathlib.Core.Bool.{Bool, true, false, cond}
-use Prim.Native.Nat.{ℕ, suc, _+_, _≤_, _<_}
+use Prim.Native.Nat.{ℕ, _+_, _≤_, _<_}
 use native.Mathlib.Nat.{add-zero}
 use native.Mathlib.Omega.{arith}
 use lib.Dec.{eqb, leb}
@@ -12,8 +12,7 @@ use Rattle.std.proofs.shelf.Tests.{eqb-true, leb-true, leb-false, le-leb, cond-
 use Rattle.pattern.specs.declared.node.Edge.{Edge}
 use Rattle.pattern.specs.declared.node.Edge.the-variants.{Child, Descendant}
 use Rattle.markup.specs.declared.fault.Fault.{Fault}
-use Rattle.markup.specs.declared.fault.Refusal.{Refusal}
-use Rattle.markup.specs.declared.fault.Refusal.the-variants.{Misfit, TooManySteps, PatternNameTooLong, PatternTooLong}
+use Rattle.markup.specs.declared.fault.Refusal.the-variants.{PatternTooLong}
 use Rattle.markup.specs.Faults.{fault}
 use Rattle.pattern.specs.declared.node.Mark.{Mark}
 use Rattle.pattern.specs.declared.node.Mark.the-variants.{Top, Any}
@@ -23,7 +22,7 @@ use Rattle.std.specs.declared.result.Result.the-variants.{Ok, Err}
 use Rattle.markup.specs.Name.{nameFirst, nameByte, NameWithin}
 use Rattle.markup.proofs.Names.{first-is-byte}
 use Rattle.pattern.specs.Shape.{Vertex, Shape, node}
-use Rattle.pattern.specs.Reading.{State, Phase, nothing, lead, edge, slash, bracket, dot, dot-slash, inside, step, Move, go, stop, granted, refused, opened, settle, Limits, limits, nextIn, beyondIn, beginIn, close, complete, finish, feed, runIn, start, reads, readPattern}
+use Rattle.pattern.specs.Reading.{State, Phase, nothing, lead, edge, slash, bracket, dot, dot-slash, inside, step, Move, granted, Limits, limits, nextIn, beyondIn, beginIn, close, finish, feed, runIn, start, reads, readPattern}
 use Rattle.pattern.specs.Spelling.{leadText, openText}
 use Rattle.pattern.proofs.Tails.{Tail, end, onward, branch, text-of, nodes-of, size, Within, DerivesTail}
 use Rattle.pattern.proofs.Sound.{at, shape, deeper}

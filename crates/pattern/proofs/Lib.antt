@@ -1,5 +1,6 @@
 pub mod Steps
-pub mod Ring
+pub mod Tables
+pub mod Progress
 pub mod Preorder
 pub mod Spell
 pub mod Tails

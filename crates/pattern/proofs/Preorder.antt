@@ -12,7 +12,7 @@ use Rattle.std.specs.shelf.Lists.{All}
 use Rattle.std.proofs.shelf.Tests.{true≢false, eqb-true, eqb-false, or-cases, or-left, or-right, cond-true, cond-false, cond-both, cases-bool, cases-lt}
 use Rattle.markup.specs.Name.{LawfulName}
 use Rattle.pattern.specs.declared.node.Edge.the-variants.{Child}
-use Rattle.pattern.specs.Shape.{Vertex, nodeAt, IsChild, Under, self, below, LawfulTwig}
+use Rattle.pattern.specs.Shape.{Vertex, nodeAt, Under, self, below, LawfulTwig}
 use Rattle.pattern.specs.Promises.{Subtrees-are-runs-of-numbers}
 
 -- p is one of these numbers

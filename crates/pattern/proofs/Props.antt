@@ -11,7 +11,6 @@ use Rattle.std.specs.shelf.Lists.{All}
 use Rattle.markup.specs.Name.{LawfulName}
 use Rattle.pattern.specs.declared.node.Edge.{Edge}
 use Rattle.pattern.specs.declared.node.Edge.the-variants.{Child, Descendant}
-use Rattle.pattern.specs.declared.twig.Twig.{Twig}
 use Rattle.pattern.specs.Shape.{Vertex, LawfulTwig}
 use Rattle.pattern.specs.Twig.{shapeOf}
 use Rattle.pattern.specs.Promises.{Every-twig-is-lawful}

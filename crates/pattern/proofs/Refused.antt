@@ -20,7 +20,7 @@ use Rattle.markup.specs.Name.{nameFirst, nameByte, NameWithin}
 use Rattle.pattern.specs.declared.node.Edge.{Edge}
 use Rattle.pattern.specs.declared.node.Edge.the-variants.{Child, Descendant}
 use Rattle.pattern.specs.declared.node.Mark.{Mark}
-use Rattle.pattern.specs.declared.node.Mark.the-variants.{Top, Any}
+use Rattle.pattern.specs.declared.node.Mark.the-variants.{Top}
 use Rattle.pattern.specs.Shape.{Vertex, Shape, node, shape}
 use Rattle.pattern.specs.Reading.{State, Phase, nothing, lead, edge, slash, bracket, dot, dot-slash, inside, step, Limits, limits, Move, go, stop, granted, refused, marked, settle, nextIn, beyondIn, beginIn, close, complete, finish, feed, runIn, start, readPattern}
 use Rattle.pattern.specs.Grammar.{Derives}

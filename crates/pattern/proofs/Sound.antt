@@ -1,14 +1,13 @@
 -- What the grammar spells is granted.
 use mathlib.Core.Path.{_≡_, refl, sym, ap, subst, _∙_}
-use mathlib.Core.Logic.{_⊎_, inl, inr, ⊎-elim}
 use mathlib.Core.List.{List, [], _∷_, _++_}
-use mathlib.Core.Bool.{Bool, true, false, cond}
-use Prim.Native.Nat.{ℕ, suc, _+_, _*_, _≤_, _<_}
+use mathlib.Core.Bool.{Bool, true, false}
+use Prim.Native.Nat.{ℕ, suc, _+_, _≤_, _<_}
 use native.Mathlib.Omega.{arith}
-use lib.Dec.{eqb, leb, lit≤}
+use lib.Dec.{eqb}
 use lib.ListN.{length}
 use Rattle.std.proofs.shelf.Lists.{append-assoc, append-nil, length-push, length-append}
-use Rattle.std.proofs.shelf.Tests.{true≢false, ne-eqb, eq-eqb, cond-true, cond-false, le-leb, lt-leb}
+use Rattle.std.proofs.shelf.Tests.{true≢false, ne-eqb, cond-true, cond-false, le-leb, lt-leb}
 use Rattle.pattern.specs.declared.node.Edge.{Edge}
 use Rattle.pattern.specs.declared.node.Edge.the-variants.{Child, Descendant}
 use Rattle.pattern.specs.declared.node.Mark.{Mark}
@@ -16,7 +15,7 @@ use Rattle.pattern.specs.declared.node.Mark.the-variants.{Top, Any}
 use Rattle.std.specs.shelf.Lists.{All}
 use Rattle.markup.specs.Name.{nameFirst, nameByte, NameWithin}
 use Rattle.pattern.specs.Shape.{Vertex, node}
-use Rattle.pattern.specs.Reading.{State, Phase, edge, lead, slash, bracket, inside, step, Limits, limits, Move, go, granted, nextIn, feed, runIn, settle, start, readPattern}
+use Rattle.pattern.specs.Reading.{State, Phase, edge, lead, slash, bracket, inside, step, Limits, limits, go, granted, nextIn, feed, runIn, settle, start, readPattern}
 use Rattle.pattern.specs.Spelling.{leadText, openText}
 use Rattle.pattern.proofs.Tails.{Tail, end, onward, branch, text-of, nodes-of, size, Within, DerivesTail}
 

@@ -1,29 +1,23 @@
 -- What the writer of the spelling leans on.
 use mathlib.Core.Path.{_≡_, refl, sym, ap, _∙_}
-use mathlib.Core.List.{List, [], _∷_, _++_, map}
-use mathlib.Core.Bool.{Bool, true, false, _||_}
+use mathlib.Core.List.{List, [], _∷_, _++_}
+use mathlib.Core.Bool.{Bool, true, false}
 use Prim.Native.Nat.{ℕ, zero, suc, _+_, _-_, _≤_, _<_}
 use native.Mathlib.Omega.{arith}
-use native.Mathlib.Numerals.{add-one-le}
 use lib.Dec.{eqb}
-use lib.ListN.{length, getD, take, drop, set}
-use Rattle.std.proofs.shelf.Lists.{at-drop-more, at-drop-all, getD-map, getD-take, length-take, length-take-le, take-more, take-all, append-assoc, append-nil, drop-more, set-at}
+use lib.ListN.{length, getD, take, drop}
+use Rattle.std.proofs.shelf.Lists.{at-drop-more, at-drop-all, length-take, length-take-le, append-assoc, append-nil}
 use Rattle.std.proofs.shelf.Tests.{eq-eqb, ne-eqb, or-left, or-right, or-from}
 use Rattle.pattern.specs.declared.node.Node.{Node}
 use Rattle.pattern.specs.Shape.{Vertex, nodeAt, shape}
 use Rattle.pattern.specs.declared.node.Mark.{Mark}
-use Rattle.pattern.specs.Table.{vertexOf, vertices, nameOf}
+use Rattle.pattern.specs.Table.{vertices, nameOf}
 use Rattle.std.specs.Options.{isSome}
 use Rattle.std.specs.declared.option.Option.{Option}
 use Rattle.std.specs.declared.option.Option.the-variants.{Some, None}
 use Rattle.pattern.specs.Twig.{NextChild}
 use Rattle.pattern.specs.Spelling.{later, piece, rest, spelling, closeText, openText, leadText}
-use Rattle.pattern.proofs.Ring.{length-vertices}
-
-pub getD-vertices : (ns : List Node) (len j : ℕ) (d : Node) (e : Vertex) → j < len → len ≤ length ns → getD (vertices ns len) j e ≡ vertexOf (getD ns j d)
-getD-vertices ns len j d e h k =
-    let l : j < length (take len ns) = omega (arith, length-take-le len ns k) in
-    getD-map vertexOf (take len ns) j d e l ∙ ap vertexOf (getD-take len ns j d h)
+use Rattle.pattern.proofs.Tables.{getD-vertices}
 
 -- a later child of p
 pub later-some : (p : ℕ) (vs : List Vertex) (k c : ℕ) → k ≤ c → c < length vs → nodeAt vs c .parent ≡ p → later p (drop k vs) ≡ true
@@ -43,14 +37,6 @@ later-none p (v ∷ vs) (suc k) h = later-none p vs k (λ c le l e. h (suc c) (o
 pub later-next : (p : ℕ) (vs : List Vertex) (k : ℕ) (o : Option ℕ) → NextChild vs p k o → isSome o ≡ later p (drop (k + 1) vs)
 later-next p vs k (Some c) h = sym (later-some p vs (k + 1) c (omega (arith, h .1)) (h .0 .there) (h .0 .hangs))
 later-next p vs k None h = sym (later-none p vs (k + 1) (λ c le l e. let x : k < c = omega arith in h c x (record { other = omega arith; there = l; hangs = e })))
-
--- one byte more of a part
-pub put-more : (t s part : List ℕ) (i : ℕ) → i < length part → t ≡ s ++ take i part → t ++ getD part i 0 ∷ [] ≡ s ++ take (i + 1) part
-put-more t s part i h e =
-    ap (λ x. x ++ getD part i 0 ∷ []) e ∙ append-assoc s (take i part) (getD part i 0 ∷ []) ∙ ap (λ x. s ++ x) (sym (take-more part i 0 h))
-
-pub put-all : (t s part : List ℕ) (i : ℕ) → length part ≤ i → t ≡ s ++ take i part → t ≡ s ++ part
-put-all t s part i h e = e ∙ ap (λ x. s ++ x) (take-all i part h)
 
 -- three parts after one another
 pub three : (t t₁ t₂ t₃ a b n : List ℕ) → t₁ ≡ t ++ a → t₂ ≡ t₁ ++ b → t₃ ≡ t₂ ++ n → t₃ ≡ t ++ (a ++ b ++ n)
@@ -88,14 +74,6 @@ rest-end t s i vs h e = sym (append-nil t) ∙ ap (λ x. t ++ x) (sym (at-drop-a
 pub rest-start : (m : Mark) (t t₁ t₂ n : List ℕ) (vs : List Vertex) (d : Vertex) → 0 < length vs → t ≡ [] → t₁ ≡ t ++ leadText m → t₂ ≡ t₁ ++ n → n ≡ getD vs 0 d .name → t₂ ++ rest 0 (drop 1 vs) ≡ spelling (shape m vs)
 rest-start m t t₁ t₂ n [] d h e e₁ e₂ e₃ = absurd (omega arith)
 rest-start m t t₁ t₂ n (v ∷ vs) d h e e₁ e₂ e₃ = ap (λ x. x ++ rest 0 vs) (e₂ ∙ (λ z. (e₁ ∙ ap (λ x. x ++ leadText m) e) z ++ e₃ z))
-
--- a copy of the front of b over that of a
-pub copy-more : (a b s : List ℕ) (k : ℕ) → k < length a → k < length b → s ≡ take k b ++ drop k a → set s k (getD b k 0) ≡ take (k + 1) b ++ drop (k + 1) a
-copy-more a b s k h h′ e =
-    ap (λ x. set x k (getD b k 0)) (e ∙ ap (λ x. take k b ++ x) (drop-more a k 0 h))
-    ∙ set-at (take k b) (getD a k 0) (drop (k + 1) a) (getD b k 0) k (length-take-le k b (omega arith))
-    ∙ sym (append-assoc (take k b) (getD b k 0 ∷ []) (drop (k + 1) a))
-    ∙ ap (λ x. x ++ drop (k + 1) a) (sym (take-more b k 0 h′))
 
 -- the written text has the buffer's length
 pub written : (bytes t : List ℕ) (len : ℕ) → len ≤ length bytes → take len bytes ≡ t → length t ≡ len

@@ -2,8 +2,8 @@
 use mathlib.Core.Path.{_≡_, refl, sym, ap, subst, _∙_}
 use mathlib.Core.Logic.{_⊎_, inl, inr, ⊎-elim}
 use mathlib.Core.List.{List, [], _∷_, _++_}
-use mathlib.Core.Bool.{Bool, true, false, cond, _||_}
-use Prim.Native.Nat.{ℕ, suc, _+_, _*_, _≤_, _<_}
+use mathlib.Core.Bool.{Bool, true, false}
+use Prim.Native.Nat.{ℕ, _+_, _*_, _≤_, _<_}
 use native.Mathlib.Nat.{add-zero}
 use native.Mathlib.Omega.{arith}
 use lib.Dec.{eqb, lit≤}
@@ -14,8 +14,8 @@ use Rattle.pattern.specs.declared.node.Edge.{Edge}
 use Rattle.pattern.specs.declared.node.Edge.the-variants.{Child, Descendant}
 use Rattle.markup.specs.Name.{LawfulName}
 use Rattle.pattern.specs.Shape.{Vertex, node}
-use Rattle.pattern.specs.Reading.{limits, upTo}
-use Rattle.pattern.specs.Spelling.{later, piece, rest, closeText, openText}
+use Rattle.pattern.specs.Reading.{upTo}
+use Rattle.pattern.specs.Spelling.{later, rest, closeText, openText}
 use Rattle.pattern.proofs.Tails.{Tail, end, onward, branch, text-of, nodes-of, size, Within, Standard}
 
 -- a branch that is the last of its node follows by an edge

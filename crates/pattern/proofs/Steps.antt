@@ -1,26 +1,26 @@
 -- How the reading of a text goes on by one byte.
 use mathlib.Core.Path.{_≡_, refl, sym, ap, subst, _∙_}
-use mathlib.Core.Logic.{_⊎_, inl, inr, ⊎-elim}
-use mathlib.Core.List.{List, [], _∷_, _++_, map}
-use mathlib.Core.Bool.{Bool, true, false, cond}
+use mathlib.Core.Logic.{⊎-elim}
+use mathlib.Core.List.{List, [], _∷_, _++_}
+use mathlib.Core.Bool.{true, false, cond}
 use Prim.Native.Nat.{ℕ, _+_, _≤_, _<_}
 use lib.Dec.{eqb, leb}
-use lib.ListN.{length, getD, drop, take, set}
-use Rattle.std.proofs.shelf.Lists.{drop-more, drop-all, take-more-set, length-take-le, length-map, map-push}
+use lib.ListN.{length, getD, take, set}
+use Rattle.std.proofs.shelf.Lists.{drop-more, drop-all, take-more-set, length-take-le}
 use Rattle.std.proofs.shelf.Tests.{cases-lt, ne-eqb, cond-true, cond-false, le-leb, lt-leb}
 use Rattle.pattern.specs.declared.node.Edge.{Edge}
 use Rattle.pattern.specs.declared.node.Edge.the-variants.{Child, Descendant}
 use Rattle.markup.specs.declared.fault.Fault.{Fault}
-use Rattle.markup.specs.declared.fault.Refusal.{Refusal}
-use Rattle.markup.specs.declared.fault.Refusal.the-variants.{Misfit, TooManySteps, PatternNameTooLong, PatternTooLong}
+use Rattle.markup.specs.declared.fault.Refusal.the-variants.{Misfit, TooManySteps, PatternNameTooLong}
 use Rattle.markup.specs.Faults.{fault}
 use Rattle.markup.specs.Name.{nameFirst, nameByte}
-use Rattle.pattern.specs.Reading.{State, Phase, edge, bracket, step, inside, slash, dot, dot-slash, Move, go, stop, refused, limits, to, settle, nextIn, beyondIn, finish, feed, runIn, reads}
-use Rattle.pattern.specs.Moves.{Sees, Edged}
-use Rattle.pattern.specs.declared.node.Node.{Node}
-use Rattle.pattern.specs.declared.node.Mark.{Mark}
+use Rattle.pattern.specs.Reading.{State, edge, bracket, step, inside, slash, dot, dot-slash, Move, go, stop, refused, limits, to, settle, nextIn, beyondIn, finish, feed, runIn, reads}
 use native.Mathlib.Omega.{arith}
-use Rattle.std.specs.declared.result.Result.the-variants.{Ok, Err}
+use Rattle.std.specs.declared.result.Result.the-variants.{Err}
+
+-- the byte b stands at place i
+abbrev pub Sees : List ℕ → ℕ → ℕ → Type 0
+Sees t i b = (i < length t) × (getD t i 0 ≡ b)
 
 -- one byte on
 pub one : (t : List ℕ) (s : State) (i : ℕ) → i < length t → reads t s i ≡ feed i (nextIn limits s (s .phase) (getD t i 0)) (λ u. reads t u (i + 1))
@@ -100,20 +100,21 @@ module _ (t : List ℕ) (i : ℕ) where
       (λ h. over t (to s (inside e n)) i h ∙ sym (over t (settle s e n) i h))
       (cases-lt i (length t))
 
--- `.//` by two calls of `expect`, from place j to k and on to l
-pub two-passed : (t t′ : List ℕ) (i j k : ℕ) → Sees t i 46 → Sees t (i + 1) 47 × (j ≡ i + 1 + 1) → t′ ≡ t → Sees t′ j 47 × (k ≡ j + 1) → Edged t bracket i k (Ok Descendant)
-two-passed t t′ i j k h a e b =
+-- `.//` by two calls of `expect`, with the text t′ after the first and t″ after the second
+pub two-passed : (t t′ t″ : List ℕ) (i j k : ℕ) → Sees t i 46 → Sees t (i + 1) 47 × (j ≡ i + 1 + 1) → t′ ≡ t → Sees t′ j 47 × (k ≡ j + 1) → t″ ≡ t′
+    → (i ≤ k) × ((s : State) → reads t (to s bracket) i ≡ reads t″ (to s (edge Descendant)) k)
+two-passed t t′ t″ i j k h a e b e′ =
     let h″ : Sees t (i + 1 + 1) 47 = subst (λ x. Sees x (i + 1 + 1) 47) e (subst (λ x. Sees t′ x 47) (a .1) (b .0)) in
     let k-is : k ≡ i + 1 + 1 + 1 = omega (arith, a .1, b .1) in
-    (omega arith, λ s. inner-two t i h (a .0) h″ s ∙ ap (reads t (to s (edge Descendant))) (sym k-is))
+    (omega arith, λ s. inner-two t i h (a .0) h″ s ∙ (λ z. reads (sym (e′ ∙ e) z) (to s (edge Descendant)) (sym k-is z)))
 
-pub first-not : (t : List ℕ) (i k : ℕ) (f : Fault) → Sees t i 46 → (Sees t (i + 1) 47 → ⊥) × (f ≡ fault Misfit (i + 1)) → Edged t bracket i k (Err f)
-first-not t i k f h a = λ s. inner-first t i h (a .0) s ∙ ap Err (sym (a .1))
+pub first-not : (t : List ℕ) (i : ℕ) (f : Fault) → Sees t i 46 → (Sees t (i + 1) 47 → ⊥) × (f ≡ fault Misfit (i + 1)) → (s : State) → reads t (to s bracket) i ≡ Err f
+first-not t i f h a s = inner-first t i h (a .0) s ∙ ap Err (sym (a .1))
 
-pub second-not : (t t′ : List ℕ) (i j k : ℕ) (f : Fault) → Sees t i 46 → Sees t (i + 1) 47 × (j ≡ i + 1 + 1) → t′ ≡ t → (Sees t′ j 47 → ⊥) × (f ≡ fault Misfit j) → Edged t bracket i k (Err f)
-second-not t t′ i j k f h a e b =
-    λ s. inner-second t i h (a .0) (λ h″. b .0 (subst (λ x. Sees x j 47) (sym e) (subst (λ x. Sees t x 47) (sym (a .1)) h″))) s
-    ∙ ap (λ x. refused Misfit x) (sym (a .1))
+pub second-not : (t t′ : List ℕ) (i j : ℕ) (f : Fault) → Sees t i 46 → Sees t (i + 1) 47 × (j ≡ i + 1 + 1) → t′ ≡ t → (Sees t′ j 47 → ⊥) × (f ≡ fault Misfit j) → (s : State) → reads t (to s bracket) i ≡ Err f
+second-not t t′ i j f h a e b s =
+    inner-second t i h (a .0) (λ h″. b .0 (subst (λ x. Sees x j 47) (sym e) (subst (λ x. Sees t x 47) (sym (a .1)) h″))) s
+    ∙ ap (refused Misfit) (sym (a .1))
     ∙ ap Err (sym (b .1))
 
 -- within a name, on from place i with n bytes to place j with m bytes
@@ -157,5 +158,8 @@ module _ (t t′ : List ℕ) (i : ℕ) (bytes : List ℕ) (n j : ℕ) (bytes′ 
       sofar .same s e
       ∙ name-long t j s e (take m bytes′) (subst (λ x. j < length x) same-text h) (sym (subst (λ x. true ≡ nameByte (getD x j 0)) same-text a)) size
 
-  pub sofar-end : (j < length t′ → nameByte (getD t′ j 0) ≡ false) → (s : State) (e : Edge) → reads t (to s (inside e (take n bytes))) i ≡ reads t (settle s e (take m bytes′)) j
-  sofar-end f s e = sofar .same s e ∙ name-end t j (subst (λ x. j < length x → nameByte (getD x j 0) ≡ false) same-text f) s e (take m bytes′)
+  pub sofar-end : (j < length t′ → nameByte (getD t′ j 0) ≡ false) → (s : State) (e : Edge) → reads t (to s (inside e (take n bytes))) i ≡ reads t′ (settle s e (take m bytes′)) j
+  sofar-end f s e =
+      sofar .same s e
+      ∙ name-end t j (subst (λ x. j < length x → nameByte (getD x j 0) ≡ false) same-text f) s e (take m bytes′)
+      ∙ ap (λ x. reads x (settle s e (take m bytes′)) j) (sym same-text)

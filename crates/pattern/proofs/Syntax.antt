@@ -1,8 +1,8 @@
 -- The grammar of steps and branches is that of tails.
 use mathlib.Core.Path.{_≡_, refl, sym, ap, subst, _∙_}
-use mathlib.Core.List.{List, [], _∷_, _++_}
+use mathlib.Core.List.{List, _∷_, _++_}
 use mathlib.Core.Bool.{true, false}
-use Prim.Native.Nat.{ℕ, suc, _+_, _≤_, _<_}
+use Prim.Native.Nat.{ℕ, _+_, _<_}
 use native.Mathlib.Nat.{add-zero}
 use native.Mathlib.Omega.{arith}
 use Rattle.std.proofs.shelf.Lists.{append-assoc, append-nil}
@@ -10,7 +10,7 @@ use Rattle.pattern.specs.declared.node.Edge.{Edge}
 use Rattle.pattern.specs.declared.node.Edge.the-variants.{Child}
 use Rattle.pattern.specs.declared.node.Mark.{Mark}
 use Rattle.markup.specs.Name.{NameWithin}
-use Rattle.pattern.specs.Shape.{Vertex, Shape, node, shape}
+use Rattle.pattern.specs.Shape.{Vertex, node, shape}
 use Rattle.pattern.specs.Reading.{Limits}
 use Rattle.pattern.specs.Spelling.{leadText, openText}
 use Rattle.pattern.proofs.Tails.{Tail, end, onward, branch, text-of, nodes-of, size, Within, Standard, DerivesTail}

@@ -3,7 +3,6 @@ use mathlib.Core.Path.{_≡_}
 use mathlib.Core.List.{List, [], _∷_, _++_}
 use mathlib.Core.Bool.{true, false}
 use Prim.Native.Nat.{ℕ, _+_, _<_}
-use lib.ListN.{length}
 use Rattle.pattern.specs.declared.node.Edge.{Edge}
 use Rattle.pattern.specs.declared.node.Edge.the-variants.{Child}
 use Rattle.pattern.specs.declared.node.Mark.{Mark}

@@ -1,35 +1,33 @@
 -- Lawful twigs are the twigs of derivations, and the promises that follow.
 use mathlib.Core.Path.{_≡_, refl, sym, ap, subst, _∙_}
-use mathlib.Core.Logic.{_⊎_, inl, inr, ⊎-elim}
+use mathlib.Core.Logic.{⊎-elim}
 use mathlib.Core.List.{List, [], _∷_, _++_}
-use mathlib.Core.Bool.{Bool, true, false, cond, _||_}
-use Prim.Native.Nat.{ℕ, zero, suc, _+_, _*_, _≤_, _<_}
+use mathlib.Core.Bool.{true, false}
+use Prim.Native.Nat.{ℕ, _+_, _*_, _≤_, _<_}
 use native.Mathlib.Nat.{add-zero}
 use native.Mathlib.Omega.{arith}
 use lib.Dec.{eqb, lit≤}
-use lib.ListN.{length, getD}
+use lib.ListN.{length}
 use Rattle.std.proofs.shelf.Lists.{append-assoc, append-nil, length-append}
 use Rattle.std.proofs.shelf.Elements.{all-append}
 use Rattle.std.proofs.shelf.Tests.{true≢false, eqb-true, eq-eqb, ne-eqb, or-cases, or-left, or-right, cond-true, cond-false, cases-bool}
-use Rattle.pattern.specs.declared.node.Edge.{Edge}
-use Rattle.pattern.specs.declared.node.Edge.the-variants.{Child}
 use Rattle.markup.specs.declared.fault.Fault.{Fault}
 use Rattle.pattern.specs.declared.node.Mark.{Mark}
 use Rattle.pattern.specs.declared.node.Mark.the-variants.{Top, Any}
 use Rattle.std.specs.shelf.Lists.{All}
-use Rattle.std.specs.declared.result.Result.the-variants.{Ok, Err}
+use Rattle.std.specs.declared.result.Result.the-variants.{Err}
 use Rattle.markup.specs.Name.{LawfulName}
-use Rattle.pattern.specs.Shape.{Vertex, Shape, node, shape, nodeAt, LawfulTwig}
+use Rattle.pattern.specs.Shape.{Vertex, Shape, node, shape, LawfulTwig}
 use Rattle.pattern.specs.Reading.{Limits, limits, upTo, granted, readPattern, reads, start}
 use Rattle.pattern.specs.Spelling.{leadText, rest, spelling}
-use Rattle.pattern.specs.Grammar.{Derives, Spells}
+use Rattle.pattern.specs.Grammar.{Derives}
 use Rattle.pattern.proofs.Tails.{Tail, end, onward, branch, text-of, nodes-of, size, Within, Standard, DerivesTail}
 use Rattle.pattern.proofs.Preorder.{among, onto, Preorder, from-preorder, to-preorder}
 use Rattle.pattern.specs.Promises.{Granted-is-what-the-grammar-derives, Granted-is-lawful, Spellings-read-back, One-standard-spelling, Same-spelling-same-twig}
 use Rattle.pattern.proofs.Syntax.{to-derives, from-derives, to-standard, from-standard}
 use Rattle.pattern.proofs.Sound.{length-nodes, sound}
 use Rattle.pattern.proofs.Exact.{exact, exact-reads, same-twig, no-grant}
-use Rattle.pattern.proofs.Standard.{std, Names, size-std, nodes-std, standard-std, std-same, within-std, text-size, spelt-root}
+use Rattle.pattern.proofs.Standard.{std, Names, nodes-std, standard-std, std-same, within-std, text-size, spelt-root}
 
 -- The path to a node: those before h are above it in number.
 abbrev Over : ℕ → List ℕ → Type 0

@@ -3,6 +3,7 @@
 mod buffer;
 mod laws;
 mod node;
+mod parser;
 mod questions;
 mod reader;
 mod reading;

@@ -2,10 +2,11 @@
 ghost use mathlib.Core.Path.{_≡_};
 ghost use mathlib.Core.List.{_++_};
 ghost use Prim.Native.Nat.{_+_, _<_, _≤_};
-ghost use lib.ListN.{length, take, drop, getD};
+ghost use lib.ListN.{length, take, drop};
 ghost use Rattle.std.specs.declared.result.Result.the-variants.{Ok};
 ghost use Rattle.pattern.specs.Shape.{nodeAt};
-ghost use Rattle.pattern.specs.Reading.{readPattern};
+ghost use Rattle.pattern.specs.Grammar.{Spells};
+ghost use Rattle.pattern.specs.Reading.{upTo, readPattern};
 ghost use Rattle.pattern.specs.Spelling.{spelling, piece, closeText, openText, leadText};
 ghost use Rattle.pattern.specs.Twig.{shapeOf, Written};
 use super::buffer::Buffer;
@@ -15,8 +16,7 @@ use super::twig::Twig;
 use markup::Fault;
 use markup::Refusal;
 
-// What stands between a node's name and the one before it: `]` where it is no child of that one, then its edge,
-// behind `[` where a later node has the same parent.
+// `]`, unless the node is a child of the node before it.
 fn close_text(parent: usize, before: usize) -> &'static [u8]
     ensures text { λ r. ⌜ now r ≡ closeText parent before ⌝ }
     ensures short { λ r. ⌜ length (now r) ≤ 1 ⌝ }
@@ -24,6 +24,7 @@ fn close_text(parent: usize, before: usize) -> &'static [u8]
     if parent == before { b"" } else { b"]" }
 }
 
+// What stands before a node's name: its edge, or `[` and its edge where its parent has a later child.
 fn open_text(later: bool, edge: Edge) -> &'static [u8]
     ensures text { λ r. ⌜ now r ≡ openText later edge ⌝ }
     ensures short { λ r. ⌜ length (now r) ≤ 4 ⌝ }
@@ -36,6 +37,7 @@ fn open_text(later: bool, edge: Edge) -> &'static [u8]
     }
 }
 
+// The lead.
 fn lead_text(mark: Mark) -> &'static [u8]
     ensures text { λ r. ⌜ now r ≡ leadText mark ⌝ }
     ensures short { λ r. ⌜ length (now r) ≤ 2 ⌝ }
@@ -47,9 +49,9 @@ fn lead_text(mark: Mark) -> &'static [u8]
 }
 
 impl Twig {
-    // Writes the node after the node of number `before`.
+    // Writes the node that follows node `before`.
     fn piece(&self, before: usize, out: &mut Buffer)
-        requires { ⌜ before + 1 < now self .len ⌝ ∗ ⌜ now out .len + 37 ≤ 640 ⌝ }
+        requires { ⌜ before + 1 < now self .len ⌝ ∗ ⌜ now out .len + 37 ≤ 589 ⌝ }
         ensures text { λ _. ⌜ take (now (out .exit) .len) (now (out .exit) .bytes) ≡ take (now (out .entry) .len) (now (out .entry) .bytes) ++ piece before (nodeAt (shapeOf (now (self .entry)) .nodes) (before + 1)) (drop (before + 1 + 1) (shapeOf (now (self .entry)) .nodes)) ⌝ }
         ensures short { λ _. ⌜ now (out .exit) .len ≤ now (out .entry) .len + 37 ⌝ }
     {
@@ -75,11 +77,12 @@ impl Twig {
         out
     }
 
-    // Writes the standard spelling from byte 0; the bytes written. Where it does not fit, nothing is written.
+    // Writes the standard spelling from byte 0 on; how many bytes that is. Where it does not fit, nothing is written.
     pub fn spell(&self, out: &mut [u8]) -> Result<usize, Fault>
+        ensures written { λ r. ⌜ Written (spelling (shapeOf (now (self .entry)))) (now (out .entry)) (now (out .exit)) r ⌝ }
+        ensures standard { λ _. ⌜ Spells (upTo 7) (spelling (shapeOf (now (self .entry)))) (shapeOf (now (self .entry))) ⌝ }
         ensures back { λ _. ⌜ readPattern (spelling (shapeOf (now (self .entry)))) ≡ Ok (shapeOf (now (self .entry))) ⌝ }
         ensures short { λ _. ⌜ length (spelling (shapeOf (now (self .entry)))) ≤ 589 ⌝ }
-        ensures told { λ r. ⌜ Written (spelling (shapeOf (now (self .entry)))) (now (out .entry)) (now (out .exit)) r ⌝ }
     {
         let text = self.spelled();
         let len = text.len;
@@ -89,9 +92,7 @@ impl Twig {
                 place: len,
             });
         }
-        for k in 0..len {
-            out[k] = text.bytes[k];
-        }
+        out[0..len].copy_from_slice(&text.bytes[0..len]);
         Ok(len)
     }
 }

@@ -1,27 +1,27 @@
-use mathlib.Core.Path.{_≡_, refl, sym, ap, subst, _∙_}
 use mathlib.Core.List.{[]}
+use mathlib.Core.Path.{_≡_, refl, subst, _∙_}
 use Prim.Native.Nat.{_<_}
 use denote.Ref.{now}
-use lib.ListN.{length}
 use native.Mathlib.Omega.{arith}
-use borrow.Author.Needs.{needs}
 use Rattle.std.proofs.shelf.Results.{err-from-errBy}
 use Rattle.pattern.specs.declared.node.Edge.the-variants.{Child}
 use Rattle.pattern.specs.Reading.{edge, step, reads, start, granted}
 use Rattle.pattern.specs.Table.{vertices}
-use Rattle.pattern.proofs.Ring.{At, stepped, from-start, start-not, ended, ended-not, length-vertices}
+use Rattle.pattern.specs.Moves.{outcome}
+use Rattle.pattern.proofs.Progress.{from-start, ended, ended-not}
+use Rattle.pattern.proofs.Tables.{length-vertices}
 use Rattle.pattern.proofs.Trees.{read-lawful}
 use Rattle.pattern.proofs.reading.parse.Needs as need
-use Rattle.pattern.proofs.reading.parse.Needs.{In-Continue-mark, In-Continue-branch, In-Continue-end}
+use Rattle.pattern.proofs.reading.parse.Needs.{In-Continue-mark, In-Continue-branch}
 
 -- to the first step, to the end of the last, and to the end of the text
-to-step : (c : In-Continue-mark) → reads (c .args .text .now) start 0 ≡ At (c .lead .last .self) (c .in-Continue-mark .mark) 0 [] (edge Child)
+to-step : (c : In-Continue-mark) → reads (c .args .text .now) start 0 ≡ outcome (c .lead .last .self) (c .in-Continue-mark .mark) 0 [] (edge Child)
 to-step c =
     let n = c .new-reader .ensures in
-    from-start _ (c .new-reader .result) (c .lead .last .self) _ (n .text) (n .place) (n .len) (c .lead .ensures .kept) (c .lead .ensures .len) (c .in-Continue-mark .ensures tt .told)
+    from-start _ (c .new-reader .result) (c .lead .last .self) _ (n .text) (n .place) (n .len) (c .lead .ensures .kept) (c .in-Continue-mark .ensures tt .told)
 
-past-step : (c : In-Continue-branch) → At (c .lead .last .self) (c .in-Continue-mark .mark) 0 [] (edge Child) ≡ At (c .branch-reader .last .self) (c .in-Continue-mark .mark) (c .in-Continue-branch .field-0) [] step
-past-step c = stepped (c .lead .last .self) (c .branch-reader .last .self) (c .branch-reader .ensures .kept) (c .in-Continue-mark .mark) 0 [] Child 0 (c .in-Continue-branch .field-0) refl (c .in-Continue-branch .ensures tt .told)
+past-step : (c : In-Continue-branch) → outcome (c .lead .last .self) (c .in-Continue-mark .mark) 0 [] (edge Child) ≡ outcome (c .branch-reader .last .self) (c .in-Continue-mark .mark) (c .in-Continue-branch .field-0) [] step
+past-step c = c .in-Continue-branch .ensures tt .told .1 (c .in-Continue-mark .mark) [] refl
 
 pub returns-in-Break-branch : need.returns-in-Break-branch
 returns-in-Break-branch c =

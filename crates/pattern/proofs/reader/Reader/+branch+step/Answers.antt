@@ -1,17 +1,17 @@
-use mathlib.Core.Path.{_≡_, refl, sym, ap, _∙_}
+use mathlib.Core.Path.{_≡_, sym, ap, _∙_}
 use mathlib.Core.List.{List, _∷_}
-use Prim.Native.Nat.{ℕ, _+_}
+use Prim.Native.Nat.{ℕ}
 use denote.Ref.{now}
 use lib.ListN.{length}
 use native.Mathlib.Omega.{arith}
-use native.Mathlib.Numerals.{add-one}
 use borrow.Author.Needs.{needs}
 use Rattle.std.proofs.shelf.Results.{err-from-errBy, made-from-err}
 use Rattle.pattern.specs.declared.node.Mark.{Mark}
 use Rattle.std.specs.declared.result.Result.the-variants.{Err}
-use Rattle.pattern.specs.Reading.{edge, step, bracket, reads}
-use Rattle.pattern.specs.Moves.{reached}
-use Rattle.pattern.proofs.Ring.{At, Along, length-vertices, stepped, edged, passed, begun, opens, opens-not, closes, closes-not, deeper}
+use Rattle.pattern.specs.Reading.{edge, step, bracket}
+use Rattle.pattern.specs.Moves.{outcome}
+use Rattle.pattern.proofs.Progress.{state, edged, passed, begun, opens, opens-not, closes, closes-not, deeper}
+use Rattle.pattern.proofs.Tables.{length-vertices}
 use Rattle.pattern.proofs.reader.Reader.+branch+step.Needs as need
 use Rattle.pattern.proofs.reader.Reader.+branch+step.Needs.{step-After-push-number, step-In-Continue-edge, step-In-Continue-branch}
 
@@ -24,9 +24,9 @@ branch-returns-in-Break-last-2 t c =
     record {
       kept = search needs;
       told = rw (p .1, p .2) (λ m hs d.
-          stepped (c .args .self .now) (c .step .last .self) (c .step .ensures .kept) m _ hs _ _ _ d (c .in-Continue-last .ensures tt .told)
+          c .in-Continue-last .ensures tt .told .1 m hs d
           ∙ c .loop-self .inv .3 .same m hs d
-          ∙ edged (c .loop-self .self) (c .edge-edge .last .self) (e .kept) m _ hs (e .nodes) (e .len) step _ _ (e .told)
+          ∙ edged (c .loop-self .self) (c .edge-edge .last .self) (e .kept) _ m _ hs step _ (e .told .1)
           ∙ c .in-Break-last-2 .ensures tt .told m hs d);
       stops = made-from-err _ _ (r .ensures .0);
     }
@@ -40,17 +40,17 @@ branch-loop-self-again t c =
       record {
         same = λ m hs d.
             c .loop-self .inv .3 .same m hs d
-            ∙ edged (c .loop-self .self) (c .edge-edge .last .self) (e .kept) m _ hs (e .nodes) (e .len) step _ _ (e .told)
-            ∙ stepped (c .edge-edge .last .self) (c .step-in-loop-self .last .self) (c .step-in-loop-self .ensures .kept) m _ hs _ _ _ d (c .in-Continue-last-2 .ensures tt .told);
+            ∙ edged (c .loop-self .self) (c .edge-edge .last .self) (e .kept) _ m _ hs step _ (e .told .1)
+            ∙ c .in-Continue-last-2 .ensures tt .told .1 m hs d;
       },
     )
 
 -- `step`: the name and the new node
-start : (t : ℕ) (c : step-After-push-number t) (m : Mark) (hs : List ℕ) → At (c .args .self .now) m (c .args .parent) hs (edge (c .args .edge)) ≡ At (c .push-number .last .self) m (c .push-number .result) hs step
+start : (t : ℕ) (c : step-After-push-number t) (m : Mark) (hs : List ℕ) → outcome (c .args .self .now) m (c .args .parent) hs (edge (c .args .edge)) ≡ outcome (c .push-number .last .self) m (c .push-number .result) hs step
 start t c m hs =
     let n = c .name .ensures in
     let p = c .push-number .ensures in
-    begun (c .args .self .now) (c .name .last .self) (c .push-number .last .self) (c .in-Continue-name .name) _ _ _ (c .args .self .now .table) (n .kept) (n .nodes) (n .len) (c .in-Continue-name .ensures tt .told) (p .kept) (p .place) (p .number) (p .len) (p .nodes) m hs
+    begun (c .args .self .now) (c .name .last .self) (c .push-number .last .self) (c .in-Continue-name .name) _ _ _ (n .kept) (c .in-Continue-name .ensures tt .told) (p .pushed) (p .number) m hs
 
 pub step-returns-in-Break-name : need.step-returns-in-Break-name
 step-returns-in-Break-name t c =
@@ -58,7 +58,7 @@ step-returns-in-Break-name t c =
     let p = err-from-errBy (r .result) (r .ensures .1) in
     record {
       kept = search needs;
-      told = rw (p .1, p .2) (λ m hs d. c .in-Break-name .ensures tt .told (reached m (c .args .self .now .nodes) (c .args .self .now .len) (c .args .parent) hs step) _ (length-vertices _ _ (omega (arith, c .args .self .now .table, c .args .self .now .few))));
+      told = rw (p .1, p .2) (λ m hs d. c .in-Break-name .ensures tt .told (state (c .args .self .now) m (c .args .parent) hs step) _ (length-vertices _ _ (omega (arith, c .args .self .now .table, c .args .self .now .few))));
       stops = made-from-err _ _ (r .ensures .0);
     }
 
@@ -83,20 +83,20 @@ step-returns-in-Break-edge t c =
           start t (need.at·step-returns-in-Break-edge t c .After-push-number) m hs
           ∙ c .loop-self .inv .2 .same m hs d
           ∙ opens (c .loop-self .self) m _ hs (c .loop-self-test .ensures tt) (omega (arith, d, c .if-depth-ge-MOST-BRACKETS .left))
-          ∙ c .in-Break-edge .ensures tt .told (reached m (c .loop-self .self .nodes) (c .loop-self .self .len) (c .push-number .result) (c .push-number .result ∷ hs) bracket));
+          ∙ c .in-Break-edge .ensures tt .told (state (c .loop-self .self) m (c .push-number .result) (c .push-number .result ∷ hs) bracket));
       stops = made-from-err _ _ (r .ensures .0);
     }
 
 -- from a turn's start into the branch, and to the branch's end
-enter : (t : ℕ) (c : step-In-Continue-edge t) (m : Mark) (hs : List ℕ) → length hs ≡ c .args .depth → At (c .loop-self .self) m (c .push-number .result) hs step ≡ At (c .inner-edge .last .self) m (c .push-number .result) (c .push-number .result ∷ hs) (edge (c .in-Continue-edge .edge))
+enter : (t : ℕ) (c : step-In-Continue-edge t) (m : Mark) (hs : List ℕ) → length hs ≡ c .args .depth → outcome (c .loop-self .self) m (c .push-number .result) hs step ≡ outcome (c .inner-edge .last .self) m (c .push-number .result) (c .push-number .result ∷ hs) (edge (c .in-Continue-edge .edge))
 enter t c m hs d =
     let e = c .inner-edge .ensures in
     opens (c .loop-self .self) m _ hs (c .loop-self-test .ensures tt) (omega (arith, d, c .if-depth-ge-MOST-BRACKETS .left))
-    ∙ edged (c .loop-self .self) (c .inner-edge .last .self) (e .kept) m _ _ (e .nodes) (e .len) bracket _ _ (c .in-Continue-edge .ensures tt .told)
+    ∙ edged (c .loop-self .self) (c .inner-edge .last .self) (e .kept) _ m _ _ bracket _ (c .in-Continue-edge .ensures tt .told .1)
 
-cross : (t : ℕ) (c : step-In-Continue-branch t) (m : Mark) (hs : List ℕ) → length hs ≡ c .args .depth → At (c .inner-edge .last .self) m (c .push-number .result) (c .push-number .result ∷ hs) (edge (c .in-Continue-edge .edge)) ≡ At (c .branch-self .last .self) m (c .in-Continue-branch .field-0) (c .push-number .result ∷ hs) step
+cross : (t : ℕ) (c : step-In-Continue-branch t) (m : Mark) (hs : List ℕ) → length hs ≡ c .args .depth → outcome (c .inner-edge .last .self) m (c .push-number .result) (c .push-number .result ∷ hs) (edge (c .in-Continue-edge .edge)) ≡ outcome (c .branch-self .last .self) m (c .in-Continue-branch .field-0) (c .push-number .result ∷ hs) step
 cross t c m hs d =
-    stepped (c .inner-edge .last .self) (c .branch-self .last .self) (c .branch-self .ensures .kept) m (c .push-number .result) (c .push-number .result ∷ hs) (c .in-Continue-edge .edge) (c .args .depth + 1) (c .in-Continue-branch .field-0) (deeper (c .push-number .result) hs _ d) (c .in-Continue-branch .ensures tt .told)
+    c .in-Continue-branch .ensures tt .told .1 m (c .push-number .result ∷ hs) (deeper (c .push-number .result) hs _ d)
 
 pub step-returns-in-Break-branch : need.step-returns-in-Break-branch
 step-returns-in-Break-branch t c =
@@ -125,7 +125,7 @@ step-loop-self-again t c =
             ∙ enter t (f .In-Continue-edge) m hs d
             ∙ cross t (f .In-Continue-branch) m hs d
             ∙ closes (c .branch-self .last .self) m _ hs _ (c .in-Continue-expect .ensures tt .told .0)
-            ∙ passed (c .branch-self .last .self) (c .expect .last .self) (e .kept) m _ hs (e .nodes) (e .len) step _ (c .in-Continue-expect .ensures tt .told .1);
+            ∙ passed (c .branch-self .last .self) (c .expect .last .self) (e .kept) _ m _ hs step (c .in-Continue-expect .ensures tt .told .1);
       },
     )
 
@@ -149,14 +149,8 @@ step-returns-in-Break-expect t c =
     }
 
 pub step-returns : need.step-returns
-step-returns t c = let kept : c .loop-self .self .text ≡ c .args .self .now .text = search needs in record {
-  kept = kept;
-  told = (
-    omega (arith, c .in-Continue-name .ensures tt .told .0),
-    λ m hs d.
-        start t (need.at·step-returns t c .After-push-number) m hs
-        ∙ c .loop-self .inv .2 .same m hs d
-        ∙ (λ z. reads (now (kept z)) (reached m (c .loop-self .self .nodes) (c .loop-self .self .len) (c .push-number .result) hs step) (c .loop-self .self .at)),
-  );
+step-returns t c = record {
+  kept = search needs;
+  told = (omega (arith, c .in-Continue-name .ensures tt .told .0), λ m hs d. start t (need.at·step-returns t c .After-push-number) m hs ∙ c .loop-self .inv .2 .same m hs d);
   stops = c .loop-self-test .ensures tt;
 }

@@ -2,8 +2,8 @@ use Prim.Native.Nat.{_+_, _-_, _*_, _≤_}
 use mathlib.Core.Path.{_≡_}
 use lib.ListN.{length}
 use denote.Ref.{now}
-use Rattle.pattern.specs.Moves.{Sees}
-use Rattle.pattern.proofs.Ring.{Along}
+use Rattle.pattern.specs.Moves.{Next}
+use Rattle.pattern.proofs.Progress.{Along}
 use Rattle.pattern.proofs.reader.Reader.+branch+step.Given as given
 
 abbrev pub μ-branch : given.MeasureT-branch
@@ -14,7 +14,7 @@ abbrev pub μ-step : given.MeasureT-step
 
 abbrev pub Inv-branch-loop-self : given.InvT-branch-loop-self
 Inv-branch-loop-self l =
-    (l .self .text ≡ l .entry .self .text) × (l .entry .self .at ≤ l .self .at) × (Sees (now (l .self .text)) (l .self .at) 91 → ⊥)
+    (l .self .text ≡ l .entry .self .text) × (l .entry .self .at ≤ l .self .at) × (Next (l .self) 91 → ⊥)
     × Along (l .entry .self) (l .self) (l .depth) (l .entry .last) (l .last)
 
 abbrev pub μ-branch-loop-self : given.MeasureT-branch-loop-self

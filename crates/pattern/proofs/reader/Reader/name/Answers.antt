@@ -1,8 +1,5 @@
-use mathlib.Core.Path.{_≡_, sym, ap, _∙_}
-use mathlib.Core.Bool.{false}
+use mathlib.Core.Path.{sym, ap, _∙_}
 use denote.Ref.{now}
-use Prim.Native.Nat.{_<_, _≤_}
-use lib.ListN.{length, getD}
 use native.Mathlib.Omega.{arith}
 use borrow.Author.Needs.{needs}
 use Rattle.std.specs.declared.result.Result.the-variants.{Err}
@@ -13,24 +10,18 @@ use Rattle.pattern.proofs.reader.Reader.name.Needs.{then-self·by·then-self, 
 pub returns-then-self : need.returns-then-self
 returns-then-self c = record {
   kept = search needs;
-  nodes = search needs;
-  len = search needs;
   told = λ s e k. name-none _ _ s e (λ h. elim (c .then-self .came) [ then-self·by·then-self w ↦ absurd (omega (arith, w .if-self)) | then-self·by·else-self·then-not-starts-name w ↦ sym (w .if-not-starts-name .ensures tt) ]) ∙ ap Err (sym (c .refuse .ensures));
 }
 
 pub returns-then-self-ge-MOST-NODES : need.returns-then-self-ge-MOST-NODES
 returns-then-self-ge-MOST-NODES c = record {
   kept = search needs;
-  nodes = search needs;
-  len = search needs;
   told = λ s e k. name-full _ _ s e (c .if-self .left) (sym (c .if-not-starts-name .ensures tt)) (omega (arith, k)) ∙ ap Err (sym (c .refuse-then-self-ge-MOST-NODES .ensures));
 }
 
 pub returns-then-len-ge-MOST-BYTES : need.returns-then-len-ge-MOST-BYTES
 returns-then-len-ge-MOST-BYTES c = record {
   kept = search needs;
-  nodes = search needs;
-  len = search needs;
   told = λ s e k.
       name-first _ _ s e (c .if-self .left) (sym (c .if-not-starts-name .ensures tt)) (omega (arith, k))
       ∙ sofar-long _ _ _ _ _ _ _ _ (ap now (c .loop-self .inv .0)) (c .loop-self .inv .6) (c .loop-self .inv .7) (c .if-len-ge-MOST-BYTES .taken) (c .loop-self .inv .5) (c .loop-self-test .taken) (c .if-in-name .ensures tt) s e
@@ -52,8 +43,6 @@ loop-self-again c = (
 pub returns : need.returns
 returns c = record {
   kept = search needs;
-  nodes = search needs;
-  len = search needs;
   told = (
     omega arith,
     omega arith,

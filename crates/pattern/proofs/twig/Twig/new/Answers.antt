@@ -1,8 +1,7 @@
 use mathlib.Core.Path.{_≡_, refl, sym, ap, subst}
-use mathlib.Core.List.{_∷_, []}
+use mathlib.Core.List.{[], _∷_}
 use native.Mathlib.Omega.{arith}
 use lib.Chars.{codes}
-use Rattle.std.specs.declared.result.Result.the-variants.{Ok}
 use Rattle.pattern.specs.declared.node.Mark.the-variants.{Any}
 use Rattle.pattern.specs.Shape.{rootA, shape, LawfulTwig}
 use Rattle.pattern.specs.Reading.{runIn, granted, readPattern}

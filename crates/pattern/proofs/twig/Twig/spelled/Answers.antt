@@ -1,13 +1,12 @@
-use mathlib.Core.Path.{_≡_, refl, sym, ap, _∙_}
+use mathlib.Core.Path.{_≡_, sym, ap, _∙_}
 use Prim.Native.Nat.{_<_, _≤_, _+_, _-_}
 use native.Mathlib.Omega.{arith}
-use borrow.Author.Needs.{needs}
 use mathlib.Core.List.{_++_}
 use lib.ListN.{take, length, getD}
 use Rattle.pattern.specs.Shape.{Vertex}
 use Rattle.pattern.specs.Table.{vertices, vertexOf}
-use Rattle.pattern.proofs.Ring.{length-vertices}
-use Rattle.pattern.proofs.Spell.{rest-start, rest-more, rest-end, getD-vertices, name-part, name-short}
+use Rattle.pattern.proofs.Tables.{length-vertices, getD-vertices}
+use Rattle.pattern.proofs.Spell.{rest-start, rest-more, rest-end, name-part, name-short}
 use Rattle.pattern.proofs.twig.Twig.spelled.Needs as need
 
 pub loop-i-holds : need.loop-i-holds
