@@ -3,6 +3,7 @@ use mathlib.Core.Path.{_≡_}
 use mathlib.Core.List.{List, _++_}
 use Prim.Native.Nat.{ℕ, _≤_, _<_}
 use lib.ListN.{length, drop}
+use denote.Ref.{RefT, now}
 use Rattle.std.specs.declared.option.Option.{Option}
 use Rattle.std.specs.declared.option.Option.the-variants.{Some, None}
 use Rattle.std.specs.declared.result.Result.{Result}
@@ -20,6 +21,11 @@ use Rattle.pattern.specs.Grammar.{Derives}
 -- the twig that a `Twig` stands for
 abbrev pub shapeOf : Twig → Shape
 shapeOf w = shape (w .mark) (vertices (w .nodes) (w .len))
+
+-- the name of node i: none past the last node
+abbrev pub NameOf : List Vertex → ℕ → Option (RefT (List ℕ)) → Type 0
+NameOf nodes i (Some a) = (i < length nodes) × (now a ≡ nodeAt nodes i .name)
+NameOf nodes i None = length nodes ≤ i
 
 -- the parent of node i, which has a lower number: none for the root, and none past the last node
 abbrev pub ParentOf : List Vertex → ℕ → Option ℕ → Type 0

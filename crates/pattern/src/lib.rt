@@ -8,6 +8,7 @@ mod questions;
 mod reader;
 mod reading;
 mod speller;
+mod summary;
 mod twig;
 
 pub use laws::places;

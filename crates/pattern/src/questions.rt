@@ -1,32 +1,12 @@
-// What a twig is made of. Each question takes any number of a node.
-ghost use mathlib.Core.Path.{_≡_};
-ghost use Prim.Native.Nat.{_<_, _≤_};
-ghost use lib.ListN.{length};
-ghost use Rattle.std.specs.Options.{Cases};
-ghost use Rattle.pattern.specs.Shape.{nodeAt};
-ghost use Rattle.pattern.specs.Twig.{shapeOf, ParentOf, EdgeOf, NextChild};
+// Questions about a node of a twig. Each takes any number.
+ghost use Rattle.pattern.specs.Twig.{shapeOf, NameOf, ParentOf, EdgeOf, NextChild};
 use super::node::Edge;
-use super::node::Mark;
 use super::twig::Twig;
 
 impl Twig {
-    // Where the root may stand.
-    pub fn mark(&self) -> Mark
-        ensures { λ r. ⌜ r ≡ shapeOf (now (self .entry)) .mark ⌝ }
-    {
-        self.mark
-    }
-
-    // How many nodes there are.
-    pub fn len(&self) -> usize
-        ensures { λ r. ⌜ r ≡ length (shapeOf (now (self .entry)) .nodes) ⌝ }
-    {
-        self.len
-    }
-
     // The name of node i; none past the last node.
     pub fn name(&self, i: usize) -> Option<&[u8]>
-        ensures { λ r. ⌜ Cases r (length (shapeOf (now (self .entry)) .nodes) ≤ i) (λ a. (i < length (shapeOf (now (self .entry)) .nodes)) × (now a ≡ nodeAt (shapeOf (now (self .entry)) .nodes) i .name)) ⌝ }
+        ensures { λ r. ⌜ NameOf (shapeOf (now (self .entry)) .nodes) i r ⌝ }
     {
         if i >= self.len {
             return None;
@@ -55,7 +35,8 @@ impl Twig {
         Some(self.nodes[i].edge)
     }
 
-    // The first child of node i with a number above `after`. From `after` = i on, this goes over all of its children.
+    // The first child of node i with a number above `after`, by either edge. With `after` first i and then each answer, this goes over
+    // all of its children.
     pub fn next_child(&self, i: usize, after: usize) -> Option<usize>
         ensures { λ r. ⌜ NextChild (shapeOf (now (self .entry)) .nodes) i after r ⌝ }
     {

@@ -3,4 +3,4 @@ use Rattle.pattern.proofs.Asked.{count}
 use Rattle.pattern.proofs.twig.Twig.len.Needs as need
 
 pub returns : need.returns
-returns c = sym (count (c .args .self .now))
+returns c = let w = c .args .self .now in record { count = sym (count w); some = w .some; few = w .few }
