@@ -1,7 +1,7 @@
 // The parts of a pattern text. A step holds branches and a branch is made of steps, so `step` and `branch` call each other; the bytes
 // left are fewer each time.
 ghost use mathlib.Core.Path.{_≡_};
-ghost use Prim.Native.Nat.{_<_};
+ghost use Prim.Native.Nat.{_<_, _≤_};
 ghost use denote.Ref.{now as held};
 ghost use Rattle.std.specs.declared.result.Result.the-variants.{Ok};
 ghost use Rattle.std.specs.Orderings.{When};
@@ -89,6 +89,13 @@ impl<'a> Reader<'a> {
         Ok(())
     }
 
+    // Whether there is no room for a further node.
+    fn is_full(&self) -> bool
+        ensures { λ r. ⌜ When r (16 ≤ now (self .entry) .len) (now (self .entry) .len < 16) ⌝ }
+    {
+        self.len >= MOST_NODES
+    }
+
     // A name.
     fn name(&mut self) -> Result<Name, Fault>
         ensures kept { λ _. ⌜ Kept (now (self .entry)) (now (self .exit)) ⌝ }
@@ -97,7 +104,7 @@ impl<'a> Reader<'a> {
         if self.at >= self.text.len() || !name::starts_name(self.text[self.at]) {
             return Err(self.refuse(Refusal::Misfit));
         }
-        if self.len >= MOST_NODES {
+        if self.is_full() {
             return Err(self.refuse(Refusal::TooManySteps));
         }
         let mut bytes = [0; name::MOST_BYTES];
