@@ -1,8 +1,10 @@
 // Twigs from pattern texts.
 ghost use mathlib.Core.Path.{_≡_};
+ghost use mathlib.Core.List.{[], _∷_};
 ghost use lib.Chars.{codes};
 ghost use Rattle.std.specs.declared.result.Result.the-variants.{Ok};
-ghost use Rattle.pattern.specs.Shape.{rootA};
+ghost use Rattle.pattern.specs.declared.node.Mark.the-variants.{Any};
+ghost use Rattle.pattern.specs.Shape.{shape, rootA};
 ghost use Rattle.pattern.specs.Table.{vertexOf};
 ghost use Rattle.pattern.specs.Reading.{readPattern};
 ghost use Rattle.pattern.specs.Twig.{shapeOf, Parsed, TurnedTo, Grammatical};
@@ -49,7 +51,8 @@ fn parse(text: &[u8]) -> Result<Twig, Fault>
 impl Twig {
     // The twig of `//a`.
     pub fn new() -> Twig
-        ensures { λ r. ⌜ readPattern (codes "//a") ≡ Ok (shapeOf r) ⌝ }
+        ensures read { λ r. ⌜ readPattern (codes "//a") ≡ Ok (shapeOf r) ⌝ }
+        ensures twig { λ r. ⌜ shapeOf r ≡ shape Any (rootA ∷ []) ⌝ }
     {
         Twig {
             mark: Mark::Any,

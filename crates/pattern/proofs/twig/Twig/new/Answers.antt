@@ -10,7 +10,7 @@ use Rattle.pattern.proofs.twig.Twig.new.Needs as need
 
 pub returns : need.returns
 unfolding runIn
-returns c = sym (ap (λ v. granted Any (v ∷ [])) (c .root-a .ensures))
+returns c = record { read = sym (ap (λ v. granted Any (v ∷ [])) (c .root-a .ensures)); twig = ap (λ v. shape Any (v ∷ [])) (c .root-a .ensures) }
 
 pub ghost-result : need.ghost-result
 unfolding runIn
