@@ -1,4 +1,4 @@
--- What is granted, the grammar spells.
+-- What is granted, the grammar derives.
 use mathlib.Core.Path.{_≡_, refl, sym, ap, subst, _∙_}
 use mathlib.Core.List.{List, [], _∷_, _++_}
 use mathlib.Core.Bool.{Bool, true, false, cond}

@@ -1,4 +1,4 @@
--- What the grammar spells is granted.
+-- What the grammar derives is granted.
 use mathlib.Core.Path.{_≡_, refl, sym, ap, subst, _∙_}
 use mathlib.Core.List.{List, [], _∷_, _++_}
 use mathlib.Core.Bool.{Bool, true, false}

@@ -1,4 +1,4 @@
--- Derivations as one type, which the proofs go by.
+-- A grammar of one type, tails, which the proofs go by: what stands after a name.
 use mathlib.Core.Path.{_≡_}
 use mathlib.Core.List.{List, [], _∷_, _++_}
 use mathlib.Core.Bool.{true, false}
