@@ -35,7 +35,10 @@ mod tests {
         // Names.
         (b"//_a-1.", Spelled(b"//_a-1.")),
         (b"//a.//b", Spelled(b"//a.//b")),
-        (b"//abcdefghijklmnopqrstuvwxyzABCDEF", Spelled(b"//abcdefghijklmnopqrstuvwxyzABCDEF")),
+        (
+            b"//abcdefghijklmnopqrstuvwxyzABCDEF",
+            Spelled(b"//abcdefghijklmnopqrstuvwxyzABCDEF"),
+        ),
         (b"//abcdefghijklmnopqrstuvwxyzABCDEFG", Refused(17, 34)),
         (b"//a[b/abcdefghijklmnopqrstuvwxyz0123456]", Refused(17, 38)),
         // Misfits.
@@ -61,16 +64,28 @@ mod tests {
         (b"//a[b]c", Refused(15, 6)),
         (b"//a[b]]", Refused(15, 6)),
         // Sixteen names, and a seventeenth.
-        (b"//a/a/a/a/a/a/a/a/a/a/a/a/a/a/a/a", Spelled(b"//a/a/a/a/a/a/a/a/a/a/a/a/a/a/a/a")),
+        (
+            b"//a/a/a/a/a/a/a/a/a/a/a/a/a/a/a/a",
+            Spelled(b"//a/a/a/a/a/a/a/a/a/a/a/a/a/a/a/a"),
+        ),
         (b"//a/a/a/a/a/a/a/a/a/a/a/a/a/a/a/a/a", Refused(16, 34)),
         (b"//a/a/a/a/a/a/a/a/a/a/a/a/a/a/a/a/1", Refused(15, 34)),
         (b"//a/a/a/a/a/a/a/a/a/a/a/a/a/a/a/a/", Refused(15, 34)),
         // Eight open brackets, and a ninth. A spelling opens seven at most.
-        (b"//a[a[a[a[a[a[a[a[a]]]]]]]]", Spelled(b"//a/a/a/a/a/a/a/a/a")),
+        (
+            b"//a[a[a[a[a[a[a[a[a]]]]]]]]",
+            Spelled(b"//a/a/a/a/a/a/a/a/a"),
+        ),
         (b"//a[a[a[a[a[a[a[a[a[a]]]]]]]]]", Refused(16, 19)),
         (b"//a[a[a[a[a[a[a[a[[", Refused(15, 18)),
-        (b"//a[a[a[a[a[a[a[a[a]]]]]]]][b][c]", Spelled(b"//a[a/a/a/a/a/a/a/a][b]/c")),
-        (b"//a[a[a[a[a[a[a[a/a]/a]/a]/a]/a]/a]/a]/a", Spelled(b"//a[a[a[a[a[a[a[a/a]/a]/a]/a]/a]/a]/a]/a")),
+        (
+            b"//a[a[a[a[a[a[a[a[a]]]]]]]][b][c]",
+            Spelled(b"//a[a/a/a/a/a/a/a/a][b]/c"),
+        ),
+        (
+            b"//a[a[a[a[a[a[a[a/a]/a]/a]/a]/a]/a]/a]/a",
+            Spelled(b"//a[a[a[a[a[a[a[a/a]/a]/a]/a]/a]/a]/a]/a"),
+        ),
         // The leftmost place decides.
         (b"//a//b[[c]]d", Refused(15, 7)),
         (b"//abcdefghijklmnopqrstuvwxyzABCDEFG[", Refused(17, 34)),
