@@ -1,0 +1,14 @@
+pub mod Steps
+pub mod Tables
+pub mod Progress
+pub mod Preorder
+pub mod Spell
+pub mod Tails
+pub mod Syntax
+pub mod Sound
+pub mod Exact
+pub mod Standard
+pub mod Trees
+pub mod Props
+pub mod Asked
+pub mod Refused

@@ -1,0 +1,9 @@
+pub mod Shape
+pub mod Table
+pub mod Reading
+pub mod Spelling
+pub mod Grammar
+pub mod Moves
+pub mod Twig
+pub mod Promises
+pub mod Places
