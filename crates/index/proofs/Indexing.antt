@@ -42,24 +42,25 @@ module _ (text old new : List ℕ) (t : Tree) (g : Grants text t) where
   indexed-written n e w =
       let back = sheet-reads-back t (g .lawful) in
       let size : n ≡ length (sheetOf t) =
-          ⊎-elim (λ (l : ltb (length old) (length (sheetOf t)) ≡ true). absurd (ok-no-err n _ (told (Ok n) e ∙ cond-true _ _ _ l)))
-          (λ (l : ltb (length old) (length (sheetOf t)) ≡ false). ok-same n _ (told (Ok n) e ∙ cond-false _ _ _ l))
-          (cases-bool (ltb (length old) (length (sheetOf t)))) in
-      record
-        { tree = t
-        ; grants = g
-        ; size = size
-        ; bytes = w
-        ; lawful = back .0
-        ; opens = encodings-open t (g .lawful)
-        ; shows = back .1
-        ; only = λ bs b l s. sheet-of-its-tree bs b l ∙ ap sheetOf s }
+      ⊎-elim (λ (l : ltb (length old) (length (sheetOf t)) ≡ true). absurd (ok-no-err n _ (told (Ok n) e ∙ cond-true _ _ _ l)))
+      (λ (l : ltb (length old) (length (sheetOf t)) ≡ false). ok-same n _ (told (Ok n) e ∙ cond-false _ _ _ l))
+      (cases-bool (ltb (length old) (length (sheetOf t)))) in
+      record {
+        tree = t;
+        grants = g;
+        size = size;
+        bytes = w;
+        lawful = back .0;
+        opens = encodings-open t (g .lawful);
+        shows = back .1;
+        only = λ bs b l s. sheet-of-its-tree bs b l ∙ ap sheetOf s;
+      }
 
   pub indexed-refused : (f : Fault) → Err f ≡ encodes (t .elements) (t .names) (length old) → new ≡ written (t .elements) (t .names) (Err f) old
       → Indexed text old new (Err (Refused f))
   indexed-refused f e w =
       ⊎-elim
       (λ (l : ltb (length old) (length (sheetOf t)) ≡ true).
-        (w, inr (record { tree = t; grants = g; longer = ltb-true _ _ l; refused = err-same f _ (told (Err f) e ∙ cond-true _ _ _ l) })))
+      (w, inr (record { tree = t; grants = g; longer = ltb-true _ _ l; refused = err-same f _ (told (Err f) e ∙ cond-true _ _ _ l) })))
       (λ (l : ltb (length old) (length (sheetOf t)) ≡ false). absurd (ok-no-err _ f (sym (told (Err f) e ∙ cond-false _ _ _ l))))
       (cases-bool (ltb (length old) (length (sheetOf t))))

@@ -19,7 +19,7 @@ use Rattle.markup.specs.Faults.{fault}
 use Rattle.markup.specs.Name.{nameFirst, nameByte, LawfulName}
 use Rattle.lexer.specs.Item.{Item, Item.start, Item.end, Item.empty, Tag, spelling}
 use Rattle.lexer.specs.Lex.{itemAt}
-use Rattle.lexer.specs.BadTag.{Fits, Opens, Overlong, BadTag, BadTag.ends, BadTag.stray, BadTag.long}
+use Rattle.lexer.specs.BadTag.{TagFront, Opens, Overlong, BadTag, BadTag.ends, BadTag.stray, BadTag.long}
 use Rattle.lexer.proofs.Tags.{tag-at}
 use Rattle.lexer.proofs.Behind.{View, View.nothing, View.nofirst, View.overlong, View.cut, View.full, view, ok-not-err, start-nofirst, end-nofirst, start-long, end-long, start-cut, end-cut, start-bad, end-bad, slash-bad}
 
@@ -32,7 +32,7 @@ Judged : List ℕ → ℕ → Type 0
 Judged bs p = ((f : Fault) × (itemAt p bs ≡ Err f) × BadTag bs p f) ⊎ ((i : Item) × Tag i × (rest : List ℕ) × (bs ≡ spelling i ++ rest))
 
 -- what is refused whatever follows fits no tag
-unfits : (p : ℕ) (xs : List ℕ) (c : ℕ) (f : Fault) → ((more : List ℕ) → itemAt p (xs ++ c ∷ more) ≡ Err f) → Fits (xs ++ c ∷ []) → ⊥
+unfits : (p : ℕ) (xs : List ℕ) (c : ℕ) (f : Fault) → ((more : List ℕ) → itemAt p (xs ++ c ∷ more) ≡ Err f) → TagFront (xs ++ c ∷ []) → ⊥
 unfits p xs c f h t =
     let whole : spelling (t .0) ++ [] ≡ xs ++ c ∷ t .2 = append-nil (spelling (t .0)) ∙ t .3 ∙ append-assoc xs (c ∷ []) (t .2) in
     ok-not-err _ f (sym (tag-at p (t .0) [] (t .1)) ∙ ap (itemAt p) whole ∙ h (t .2))
@@ -160,10 +160,10 @@ front-of (y ∷ ys) (x ∷ xs) u t e h =
 
 record CutAt (bs xs : List ℕ) : Type 0 where
   opens : Opens xs
-  tail : (bs ≡ xs) ⊎ ((c : ℕ) × (rest : List ℕ) × (bs ≡ xs ++ c ∷ rest) × (Fits (xs ++ c ∷ []) → ⊥))
+  tail : (bs ≡ xs) ⊎ ((c : ℕ) × (rest : List ℕ) × (bs ≡ xs ++ c ∷ rest) × (TagFront (xs ++ c ∷ []) → ⊥))
 
 -- a cut after which something else still fits
-too-early : (bs xs ys t : List ℕ) → CutAt bs xs → bs ≡ ys ++ t → Fits ys → length xs < length ys → ⊥
+too-early : (bs xs ys t : List ℕ) → CutAt bs xs → bs ≡ ys ++ t → TagFront ys → length xs < length ys → ⊥
 too-early bs xs ys t a e f h =
     ⊎-elim (λ (w : bs ≡ xs). omega (arith, ap (λ l. length l) (sym w ∙ e), length-append ys t))
     (λ w.
@@ -172,7 +172,7 @@ too-early bs xs ys t a e f h =
     w .3 (f .0, f .1, r .0 ++ f .2, f .3 ∙ ap (λ l. l ++ f .2) (r .1) ∙ append-assoc (xs ++ c ∷ []) (r .0) (f .2)))
     (a .tail)
 
-opens-fits : (xs : List ℕ) → Opens xs → Fits xs
+opens-fits : (xs : List ℕ) → Opens xs → TagFront xs
 opens-fits xs o = (o .0, o .1, o .2 ∷ o .3, o .4)
 
 begins-with : (bs xs : List ℕ) → CutAt bs xs → (t : List ℕ) × (bs ≡ xs ++ t)
@@ -192,7 +192,7 @@ overlong-opens : (xs : List ℕ) (c : ℕ) → Overlong xs c → Opens xs
 overlong-opens xs c o =
     ⊎-elim (λ (e : xs ≡ 60 ∷ o .0). subst Opens (sym e) (start (o .0), o .1, 62, [], refl)) (λ (e : xs ≡ 60 ∷ 47 ∷ o .0). subst Opens (sym e) (end (o .0), o .1, 62, [], refl)) (o .4)
 
-overlong-unfits : (xs : List ℕ) (c : ℕ) → Overlong xs c → Fits (xs ++ c ∷ []) → ⊥
+overlong-unfits : (xs : List ℕ) (c : ℕ) → Overlong xs c → TagFront (xs ++ c ∷ []) → ⊥
 overlong-unfits xs c o =
     ⊎-elim
     (λ (e : xs ≡ 60 ∷ o .0). unfits 0 xs c _ (λ more. ap (λ l. itemAt 0 (l ++ c ∷ more)) e ∙ start-long 0 (o .0) (o .1) c more (o .2) (o .3)))
@@ -202,7 +202,7 @@ overlong-unfits xs c o =
 cut-ends : (bs : List ℕ) → Opens bs → CutAt bs bs
 cut-ends bs o = record { opens = o; tail = inl refl }
 
-cut-stray : (bs xs : List ℕ) (c : ℕ) (rest : List ℕ) → bs ≡ xs ++ c ∷ rest → Opens xs → (Fits (xs ++ c ∷ []) → ⊥) → CutAt bs xs
+cut-stray : (bs xs : List ℕ) (c : ℕ) (rest : List ℕ) → bs ≡ xs ++ c ∷ rest → Opens xs → (TagFront (xs ++ c ∷ []) → ⊥) → CutAt bs xs
 cut-stray bs xs c rest e o n = record { opens = o; tail = inr (c, rest, e, n) }
 
 cut-long : (bs xs : List ℕ) (c : ℕ) (rest : List ℕ) → bs ≡ xs ++ c ∷ rest → Overlong xs c → CutAt bs xs

@@ -12,8 +12,8 @@ use Rattle.markup.specs.Name.{nameByte, LawfulName}
 use Rattle.lexer.specs.Item.{Item, Tag, spelling}
 
 -- these bytes are the front of some tag
-abbrev pub Fits : List ℕ → Type 0
-Fits xs = (i : Item) × Tag i × (more : List ℕ) × (spelling i ≡ xs ++ more)
+abbrev pub TagFront : List ℕ → Type 0
+TagFront xs = (i : Item) × Tag i × (more : List ℕ) × (spelling i ≡ xs ++ more)
 
 -- and not the whole of it
 abbrev pub Opens : List ℕ → Type 0
@@ -27,6 +27,6 @@ Overlong xs c = (n : List ℕ) × LawfulName n × (length n ≡ 32) × (nameByte
 -- 33rd of a name
 pub data BadTag (bs : List ℕ) (p : ℕ) (f : Fault) : Type 0 where
   ends : Opens bs → f ≡ fault Stray (p + length bs) → BadTag bs p f
-  stray : (xs : List ℕ) (c : ℕ) (rest : List ℕ) → bs ≡ xs ++ c ∷ rest → Opens xs → (Fits (xs ++ c ∷ []) → ⊥) → (Overlong xs c → ⊥)
+  stray : (xs : List ℕ) (c : ℕ) (rest : List ℕ) → bs ≡ xs ++ c ∷ rest → Opens xs → (TagFront (xs ++ c ∷ []) → ⊥) → (Overlong xs c → ⊥)
       → f ≡ fault Stray (p + length xs) → BadTag bs p f
   long : (xs : List ℕ) (c : ℕ) (rest : List ℕ) → bs ≡ xs ++ c ∷ rest → Overlong xs c → f ≡ fault BookNameTooLong (p + length xs) → BadTag bs p f

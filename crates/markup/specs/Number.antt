@@ -6,7 +6,7 @@ use Rattle.markup.specs.declared.fault.Refusal.the-variants.{BookTooLong, Stra
 abbrev pub numberOf : Refusal → ℕ
 -- a book text above 16,777,216 bytes
 numberOf BookTooLong = 1
--- a byte that fits no item where it stands
+-- a byte that fits no item where it stands, or a text that ends in a tag
 numberOf Stray = 2
 -- an end tag that is not the innermost open element's
 numberOf WrongEndTag = 3
@@ -22,7 +22,7 @@ numberOf TooMany = 7
 numberOf BookNameTooLong = 8
 -- a sheet buffer that is too short
 numberOf SheetWontFit = 9
--- a sheet of another length than it says
+-- a sheet of fewer than 32 bytes, or of another length than it says
 numberOf SheetLength = 10
 -- a wrong header field
 numberOf HeaderField = 11

@@ -49,7 +49,7 @@ impl Refusal {
     }
 }
 
-// A refusal with its place, a byte offset from 0 or the count that the refusal's rule names.
+// A refusal with its place: a byte offset from 0, or the number that the rule of the refusal names.
 #[derive(Clone, Copy, Debug, PartialEq, Eq)]
 pub struct Fault {
     pub refusal: Refusal,

@@ -15,8 +15,8 @@ returns-in-Break-len c =
     let f = c .in-Break-len .field-0 .0 in
     let book = c .in-Continue-book .book in
     rw (p .1, p .2) (indexed-refused (c .args .text .now) (c .args .out .now) (c .encode .last .out) (treeOf book) (c .in-Continue-book .ensures tt) f
-      (c .in-Break-len .ensures tt .answer ∙ (λ i. encodes (c .as-slice .ensures .value i) (bytesOf (c .as-slice-2 .ensures .value i)) (length (c .args .out .now))))
-      (c .in-Break-len .ensures tt .buffer))
+    (c .in-Break-len .ensures tt .answer ∙ (λ i. encodes (c .as-slice .ensures .value i) (bytesOf (c .as-slice-2 .ensures .value i)) (length (c .args .out .now))))
+    (c .in-Break-len .ensures tt .buffer))
 
 pub returns : need.returns
 returns c =

@@ -31,8 +31,8 @@ loop-k-again c =
     one-more (namesOf bs) (elementsOf bs) (c .loop-k .k) (vec-items (c .loop-k .lines)) _ (c .loop-k .inv) blank _ _
     (omega (arith, length-elementsOf bs))
     (c .in-Continue-line .ensures tt
-     ∙ line-of bs (lawful-of _ (view .lawful)) (c .loop-k .k) (c .unwrap-element .result) known (sym (c .element .ensures) ∙ c .unwrap-element .ensures) (c .unwrap-name .result)
-       (subst (NameIn bs (c .unwrap-element .result .name)) (c .unwrap-name .ensures) (c .name .ensures)))
+    ∙ line-of bs (lawful-of _ (view .lawful)) (c .loop-k .k) (c .unwrap-element .result) known (sym (c .element .ensures) ∙ c .unwrap-element .ensures) (c .unwrap-name .result)
+    (subst (NameIn bs (c .unwrap-element .result .name)) (c .unwrap-name .ensures) (c .name .ensures)))
     (c .in-Continue-extend-from-slice .ensures tt .items ∙ ap (λ l. vec-items (c .loop-k .lines) ++ l) (c .as-slice .ensures .value))
 
 pub returns : need.returns
@@ -40,4 +40,4 @@ returns c =
     let bs = c .args .view .now .bytes .now in
     c .in-Continue-extend-from-slice-2 .ensures tt .items
     ∙ (λ i. all-done (namesOf bs) (elementsOf bs) (c .loop-k .k) (vec-items (c .loop-k .lines)) _ (c .loop-k .inv) (omega (arith, length-elementsOf bs, c .element-count-k-end .ensures)) i
-        ++ (c .as-slice-2 .ensures .value ∙ c .in-Continue-end .ensures tt) i)
+    ++ (c .as-slice-2 .ensures .value ∙ c .in-Continue-end .ensures tt) i)
