@@ -9,7 +9,7 @@ use std::io::Read;
 const CHUNK: usize = 65_536;
 
 // All of standard input, or its first `most` bytes where it has more.
-pub fn read_up_to(rt: &LibcRuntime, most: usize) -> Result<Vec<u8>, AnyError>
+pub(crate) fn read_up_to(rt: &LibcRuntime, most: usize) -> Result<Vec<u8>, AnyError>
     ensures { λ r. ⌜ made r (λ v. vec-len v ≤ most) ⌝ }
 {
     let mut input = rt.stdin();

@@ -15,8 +15,7 @@ pub fn element_line(heap: Global, element: Element, name: &[u8]) -> Result<Vec<u
     let start = element.start;
     let end = element.end;
     let level = element.level;
-    let numbers = format!(heap, "{start} {end} {level} ")?;
-    let mut line = Vec::from_slice(heap, numbers.as_bytes())?;
+    let mut line = format!(heap, "{start} {end} {level} ")?.into_bytes();
     line.extend_from_slice(name)?;
     line.push(b'\n')?;
     Ok(line)
@@ -35,6 +34,5 @@ pub fn refusal_line(heap: Global, fault: Fault) -> Result<Vec<u8>, AllocError>
 {
     let number = fault.refusal.number();
     let place = fault.place;
-    let line = format!(heap, "refused {number} at {place}\n")?;
-    Vec::from_slice(heap, line.as_bytes())
+    Ok(format!(heap, "refused {number} at {place}\n")?.into_bytes())
 }

@@ -54,7 +54,7 @@ fn check_header(bytes: &[u8]) -> Result<(), Fault>
 
 // Whether the bytes are a lawful sheet, or what is wrong first: one pass over the header, one over the element records
 // from the back for their nexts and each name's first element, one from the front for the rest, and one over the names.
-pub fn check_sheet(bytes: &[u8]) -> Result<(), Fault>
+pub(crate) fn check_sheet(bytes: &[u8]) -> Result<(), Fault>
     ensures { λ r. ⌜ Opened (now (bytes .entry)) r ⌝ }
 {
     let wrong_length = Fault {

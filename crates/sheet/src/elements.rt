@@ -19,13 +19,13 @@ use markup::Refusal;
 
 // The lowest element whose next is wrong, or the count of elements; and each name's first element.
 #[derive(Drop)]
-pub struct Links {
-    pub wrong: u32,
-    pub first: [u32; MOST_NAMES],
+pub(crate) struct Links {
+    pub(crate) wrong: u32,
+    pub(crate) first: [u32; MOST_NAMES],
 }
 
 // One pass from the back, which knows the nearest element of each name.
-pub fn read_links(bytes: &[u8]) -> Links
+pub(crate) fn read_links(bytes: &[u8]) -> Links
     requires { ⌜ Sized (now bytes) ⌝ }
     ensures wrong { λ r. ⌜ LinkedFrom (now (bytes .entry)) 0 (r .wrong) ⌝ }
     ensures first { λ r. ⌜ Firsts (now (bytes .entry)) 0 (r .first) ⌝ }
@@ -97,7 +97,7 @@ fn has_right_numbers(bytes: &[u8], seen: u32, wrong: u32, k: u32) -> bool
 }
 
 // The element records in order, where `wrong` is the lowest one whose next is wrong.
-pub fn check_elements(bytes: &[u8], wrong: u32) -> Result<(), Fault>
+pub(crate) fn check_elements(bytes: &[u8], wrong: u32) -> Result<(), Fault>
     requires sized { ⌜ Sized (now bytes) ⌝ }
     requires linked { ⌜ LinkedFrom (now bytes) 0 wrong ⌝ }
     ensures { λ r. ⌜ Cases r (λ _. Each (RightElement (now (bytes .entry))) (elementCount (now (bytes .entry)))) (λ f. WrongElement (now (bytes .entry)) f) ⌝ }

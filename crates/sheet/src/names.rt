@@ -85,7 +85,7 @@ fn is_right_name(
 }
 
 // The name records in order, and whether they take up all name bytes. `first` holds each name's first element.
-pub fn check_names(bytes: &[u8], first: &[u32; MOST_NAMES]) -> Result<(), Fault>
+pub(crate) fn check_names(bytes: &[u8], first: &[u32; MOST_NAMES]) -> Result<(), Fault>
     requires sized { ⌜ Sized (now bytes) ⌝ }
     requires firsts { ⌜ Firsts (now bytes) 0 (now first) ⌝ }
     requires elements { ⌜ Each (RightElement (now bytes)) (elementCount (now bytes)) ⌝ }

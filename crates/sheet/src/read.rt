@@ -7,14 +7,14 @@ ghost use Rattle.sheet.specs.Opening.{Sized};
 use layout::NameRecord;
 use tree::Element;
 
-pub fn read_u16(bytes: &[u8], at: usize) -> u16
+pub(crate) fn read_u16(bytes: &[u8], at: usize) -> u16
     requires { ⌜ at + 2 ≤ length (now bytes) ⌝ }
     ensures { λ r. ⌜ r ≡ u16At (now (bytes .entry)) at ⌝ }
 {
     u16::from_le_bytes([bytes[at], bytes[at + 1]])
 }
 
-pub fn read_u32(bytes: &[u8], at: usize) -> u32
+pub(crate) fn read_u32(bytes: &[u8], at: usize) -> u32
     requires { ⌜ at + 4 ≤ length (now bytes) ⌝ }
     ensures { λ r. ⌜ r ≡ u32At (now (bytes .entry)) at ⌝ }
 {
@@ -22,7 +22,7 @@ pub fn read_u32(bytes: &[u8], at: usize) -> u32
 }
 
 // Element k.
-pub fn read_element(bytes: &[u8], k: u32) -> Element
+pub(crate) fn read_element(bytes: &[u8], k: u32) -> Element
     requires { ⌜ 48 + 16 * k ≤ length (now bytes) ⌝ }
     ensures { λ r. ⌜ r ≡ elementAt (now (bytes .entry)) k ⌝ }
 {
@@ -36,7 +36,7 @@ pub fn read_element(bytes: &[u8], k: u32) -> Element
 }
 
 // What the record of element k has as its next element of the same name.
-pub fn read_next(bytes: &[u8], k: u32) -> u32
+pub(crate) fn read_next(bytes: &[u8], k: u32) -> u32
     requires { ⌜ 48 + 16 * k ≤ length (now bytes) ⌝ }
     ensures { λ r. ⌜ r ≡ nextAt (now (bytes .entry)) k ⌝ }
 {
@@ -44,7 +44,7 @@ pub fn read_next(bytes: &[u8], k: u32) -> u32
 }
 
 // Name record j.
-pub fn read_name(bytes: &[u8], j: u32) -> NameRecord
+pub(crate) fn read_name(bytes: &[u8], j: u32) -> NameRecord
     requires { ⌜ nameOffset (now bytes) j + 12 ≤ length (now bytes) ⌝ }
     ensures { λ r. ⌜ r ≡ nameAt (now (bytes .entry)) j ⌝ }
 {
@@ -57,7 +57,7 @@ pub fn read_name(bytes: &[u8], j: u32) -> NameRecord
 }
 
 // The bytes of name j.
-pub fn read_text<'b>(bytes: &'b [u8], j: u32) -> &'b [u8]
+pub(crate) fn read_text<'b>(bytes: &'b [u8], j: u32) -> &'b [u8]
     requires sized { ⌜ Sized (now bytes) ⌝ }
     requires within { ⌜ j < nameCount (now bytes) ⌝ }
     requires fits { ⌜ nameAt (now bytes) j .offset + nameAt (now bytes) j .length ≤ byteCount (now bytes) ⌝ }

@@ -6,21 +6,21 @@ ghost use Rattle.sheet.specs.Writing.{Puts};
 use layout::NameRecord;
 use tree::Element;
 
-pub fn put(out: &mut [u8], at: usize, bytes: &[u8])
+pub(crate) fn put(out: &mut [u8], at: usize, bytes: &[u8])
     requires { ⌜ at + length (now bytes) ≤ length (now out) ⌝ }
     ensures { λ _. ⌜ Puts (now (bytes .entry)) (now (out .entry)) at (now (out .exit)) ⌝ }
 {
     out[at..at + bytes.len()].copy_from_slice(bytes);
 }
 
-pub fn put_u16(out: &mut [u8], at: usize, n: u16)
+pub(crate) fn put_u16(out: &mut [u8], at: usize, n: u16)
     requires { ⌜ at + 2 ≤ length (now out) ⌝ }
     ensures { λ _. ⌜ Puts (le16 n) (now (out .entry)) at (now (out .exit)) ⌝ }
 {
     put(out, at, &n.to_le_bytes());
 }
 
-pub fn put_u32(out: &mut [u8], at: usize, n: u32)
+pub(crate) fn put_u32(out: &mut [u8], at: usize, n: u32)
     requires { ⌜ at + 4 ≤ length (now out) ⌝ }
     ensures { λ _. ⌜ Puts (le32 n) (now (out .entry)) at (now (out .exit)) ⌝ }
 {
@@ -28,7 +28,7 @@ pub fn put_u32(out: &mut [u8], at: usize, n: u32)
 }
 
 // Numbers, one after the other.
-pub fn put_words(out: &mut [u8], at: usize, numbers: &[u32])
+pub(crate) fn put_words(out: &mut [u8], at: usize, numbers: &[u32])
     requires { ⌜ at + 4 * length (now numbers) ≤ length (now out) ⌝ }
     ensures { λ _. ⌜ Puts (words (now (numbers .entry))) (now (out .entry)) at (now (out .exit)) ⌝ }
 {
@@ -38,7 +38,7 @@ pub fn put_words(out: &mut [u8], at: usize, numbers: &[u32])
 }
 
 // The record of an element.
-pub fn put_element(out: &mut [u8], at: usize, e: Element, next: u32)
+pub(crate) fn put_element(out: &mut [u8], at: usize, e: Element, next: u32)
     requires { ⌜ at + 16 ≤ length (now out) ⌝ }
     ensures { λ _. ⌜ Puts (elementBytes e next) (now (out .entry)) at (now (out .exit)) ⌝ }
 {
@@ -50,7 +50,7 @@ pub fn put_element(out: &mut [u8], at: usize, e: Element, next: u32)
 }
 
 // The record of a name.
-pub fn put_name(out: &mut [u8], at: usize, name: NameRecord)
+pub(crate) fn put_name(out: &mut [u8], at: usize, name: NameRecord)
     requires { ⌜ at + 12 ≤ length (now out) ⌝ }
     ensures { λ _. ⌜ Puts (nameBytes (name .offset) (name .length) (name .first)) (now (out .entry)) at (now (out .exit)) ⌝ }
 {

@@ -15,7 +15,7 @@ fn name(number: u32, skip: u8) -> [u8; 32] {
 }
 
 // A book text with 65,535 elements and 1,024 names of 32 bytes; names tell apart by three letters from the one at `skip` on.
-pub fn largest(heap: Global, skip: u8) -> Result<Vec<u8>, AllocError> {
+pub(crate) fn largest(heap: Global, skip: u8) -> Result<Vec<u8>, AllocError> {
     let mut text = Vec::new(heap);
     let top = name(0, skip);
     text.push(b'<')?;
