@@ -1,4 +1,4 @@
-// Times indexing and opening at the limits: 65,535 elements and 1,024 names of 32 bytes. Seconds go to standard error.
+// Times indexing and opening at the limits: 65,535 elements and 1,024 names of 32 bytes. The times go to standard error.
 mod books;
 
 use sheet::SheetView;
@@ -42,7 +42,11 @@ fn main(rt: LibcRuntime) -> Result<(), AnyError> {
     let heap: Global = rt.alloc();
     let spread = books::largest(heap, 0)?;
     let alike = books::largest(heap, 3)?;
-    if !time_book(&rt, "names that differ at both ends", spread.as_slice())?
+    if !time_book(
+        &rt,
+        "names that differ in their first bytes",
+        spread.as_slice(),
+    )?
         || !time_book(
             &rt,
             "names alike at both ends and in the middle",
