@@ -1,0 +1,4 @@
+pub mod Calls
+pub mod Narrow
+pub mod Parts
+pub mod Positions

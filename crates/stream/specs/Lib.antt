@@ -1,0 +1,4 @@
+pub mod Lists
+pub mod Sets
+pub mod Narrowing
+pub mod Rules
