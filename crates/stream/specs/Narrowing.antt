@@ -10,11 +10,11 @@ use Rattle.stream.specs.Sets.{Laws}
 abbrev pub narrowed : (ℕ → Region → Bool) → (ℕ → List Region) → ℕ → List Region
 narrowed keep lists i = kept-by (keep i) (lists i)
 
-kept-step : (b : Bool) (x : Region) {ys xs : List Region} → Sublistᴰ ys xs → Sublistᴰ (cond b (x ∷ ys) ys) (x ∷ xs)
+kept-step : {X : Type 0} (b : Bool) (x : X) {ys xs : List X} → Sublistᴰ ys xs → Sublistᴰ (cond b (x ∷ ys) ys) (x ∷ xs)
 kept-step true x s = Sublistᴰ·cons-cons (λ i. x) s
 kept-step false x s = Sublistᴰ·cons s
 
-kept-part : (p : Region → Bool) (xs : List Region) → Sublistᴰ (kept-by p xs) xs
+pub kept-part : {X : Type 0} (p : X → Bool) (xs : List X) → Sublistᴰ (kept-by p xs) xs
 kept-part p [] = Sublistᴰ·slnil
 kept-part p (x ∷ xs) = kept-step (p x) x (kept-part p xs)
 
