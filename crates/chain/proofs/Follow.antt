@@ -101,14 +101,3 @@ module _ (bs : List ℕ) (law : LawfulSheet bs) (heads : List ℕ) (i : ℕ) (in
       go : (j : ℕ) (b : Bool) → eqb j i ≡ b → chains bs (set heads i v) j ≡ cond b (rest (chains bs heads j)) (chains bs heads j)
       go j true t = let k : j ≡ i = eqb-true j i t in rw k same
       go j false t = ap (λ (m : ℕ). cond (ltb j 16) (map regionOf (chainFrom bs m)) []) (getD-set-other heads i j v 0 (eqb-false j i t))
-
--- past position 15 nothing changes
-pub past-all : (bs heads : List ℕ) (i : ℕ) → 16 ≤ i → chains bs heads ≡ update i rest (chains bs heads)
-past-all bs heads i h = fun-ext (λ j. go j (eqb j i) refl)
-  where
-    go : (j : ℕ) (b : Bool) → eqb j i ≡ b → chains bs heads j ≡ cond b (rest (chains bs heads j)) (chains bs heads j)
-    go j true t =
-        let k : j ≡ i = eqb-true j i t in
-        let none : chains bs heads j ≡ [] = cond-false (ltb j 16) _ _ (le-ltb j 16 (omega arith)) in
-        none ∙ sym (ap rest none)
-    go j false t = refl

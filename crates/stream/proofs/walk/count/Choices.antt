@@ -1,6 +1,3 @@
-use mathlib.Core.List.{List}
-use Prim.Native.Nat.{ℕ}
-use Rattle.stream.specs.declared.region.Region.{Region}
 use mathlib.Core.Path.{_≡_}
 use mathlib.Core.List.{[]}
 use Prim.Native.Nat.{_+_}

@@ -1,8 +1,8 @@
-use mathlib.Core.Path.{_≡_, refl, sym, ap, _∙_}
+use mathlib.Core.Path.{_≡_, refl}
 use borrow.Author.Needs.{needs}
 use lib.ListN.{length}
 use Rattle.sheet.proofs.Props.{lawful-of}
-use Rattle.chain.proofs.Follow.{next-taken, past-all}
+use Rattle.chain.proofs.Follow.{next-taken}
 use Rattle.chain.proofs.chain.ChainSetStream.advance.Needs as need
 
 pub returns-then-i-lt16 : need.returns-then-i-lt16

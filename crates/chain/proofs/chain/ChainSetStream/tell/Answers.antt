@@ -1,5 +1,5 @@
 use mathlib.Core.Path.{refl, sym, ap, _∙_}
-use Rattle.std.specs.declared.option.Option.the-variants.{Some, None}
+use Rattle.std.specs.declared.option.Option.the-variants.{Some}
 use Rattle.sheet.proofs.Props.{lawful-of}
 use Rattle.chain.proofs.Follow.{shown, first-told}
 use Rattle.chain.proofs.chain.ChainSetStream.tell.Needs as need

@@ -1,6 +1,5 @@
-use mathlib.Core.Path.{sym, ap, _∙_}
+use mathlib.Core.Path.{ap, _∙_}
 use Rattle.stream.specs.Lists.{update, rest}
-use Rattle.stream.specs.Narrowing.{narrowed}
 use Rattle.stream.proofs.Calls.{advanced}
 use Rattle.stream.proofs.layer.NarrowedSet.advance.Needs as need
 

@@ -1,6 +1,5 @@
-use mathlib.Core.Path.{_≡_, sym, ap, _∙_}
+use mathlib.Core.Path.{sym, ap, _∙_}
 use Rattle.stream.specs.Lists.{first}
-use Rattle.stream.specs.Narrowing.{narrowed}
 use Rattle.stream.proofs.Narrow.{first-kept}
 use Rattle.stream.proofs.layer.NarrowedSet.tell.Needs as need
 

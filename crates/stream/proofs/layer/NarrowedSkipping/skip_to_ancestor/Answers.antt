@@ -1,4 +1,4 @@
-use mathlib.Core.Path.{_≡_, sym, ap, _∙_}
+use mathlib.Core.Path.{sym, ap, _∙_}
 use Rattle.stream.specs.Lists.{update, rest, dropUntil, halts, firstPasses, around}
 use Rattle.stream.specs.Narrowing.{narrowed}
 use Rattle.stream.proofs.Calls.{found, missed, again, falls}
