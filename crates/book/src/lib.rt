@@ -1,4 +1,6 @@
 // The reader of book texts: from text to its elements and names, or to the first refusal.
+#![tactic(auto)]
+
 pub mod book;
 mod names;
 pub mod promises;

@@ -1,4 +1,6 @@
 // Indexes book texts: from text to sheet.
+#![tactic(auto)]
+
 mod indexer;
 
 pub use indexer::index;

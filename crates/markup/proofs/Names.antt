@@ -1,8 +1,8 @@
 -- Lawful names.
-use Rattle.std.proofs.Common.{◌≡◌, ℕ, suc, ◌+◌, ◌<◌, ◌≤◌, true, cond, List, [], ◌∷◌, length, get_or, take, sym, ap, ◌∙◌, subst, true≢false, arith, length-take}
-use Rattle.std.specs.List.{prefix_len, AllByRecursion as Every}
+use Rattle.std.proofs.Common.{◌≡◌, ℕ, suc, ◌+◌, ◌≤◌, true, cond, List, [], ◌∷◌, length, get_or, take, sym, ap, ◌∙◌, subst, true≢false, arith, length-take}
+use Rattle.std.specs.List.{prefix_len}
 use Rattle.std.proofs.lemmas.Bool.{or_left}
-use Rattle.markup.specs.Name.{name_first, name_byte, NameWithin, LawfulName}
+use Rattle.markup.specs.Name.{name_first, name_byte, LawfulName}
 use Rattle.markup.proofs.Leading.{leading_all, all_leading, all_from_leading}
 
 -- what may begin a name may stand in one

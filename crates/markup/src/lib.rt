@@ -1,4 +1,6 @@
 // What all texts and formats share: the refusals with their places, and the rule of names.
+#![tactic(auto)]
+
 pub mod fault;
 pub mod name;
 pub mod scan;

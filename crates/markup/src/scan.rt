@@ -26,7 +26,7 @@ impl Class for NameBytes {
 
 // How many bytes of the class stand at the front.
 pub fn run<C: Class>(bytes: &[u8]) -> usize
-    ensures value { result ≡ prefix_len member bytes.now }
+    ensures value { result ≡ prefix_len C.member bytes.now }
     ensures within { result ≤ length bytes.now }
 {
     for (i, b) in bytes.iter().enumerate() {

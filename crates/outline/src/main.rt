@@ -1,5 +1,7 @@
 // Prints the outline of the book text on standard input: for each element its start, end, level and name, a line each, and then `end`; or,
 // where the text is no book text, only the refusal's line.
+#![tactic(auto)]
+
 mod input;
 
 use report::outline;

@@ -1,5 +1,7 @@
 // Twig patterns: the reader of a pattern text, the twig that it is read as, and the writer of its standard spelling.
 // `docs/PATTERN.md` has the rules.
+#![tactic(auto)]
+
 mod buffer;
 mod laws;
 mod node;

@@ -1,4 +1,6 @@
 // Tests of the crate `pattern`: texts with what they are read as, and every small change of a text.
+#![tactic(auto)]
+
 #[cfg(test)]
 mod tests {
     use pattern::Twig;

@@ -1,4 +1,6 @@
 // The lines that the programs print.
+#![tactic(auto)]
+
 mod decimal;
 pub mod line;
 pub mod outline;

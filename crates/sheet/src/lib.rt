@@ -1,4 +1,6 @@
 // The sheet of a book: writes elements and names as a sheet, and shows the elements and names of a sheet that is given.
+#![tactic(auto)]
+
 mod check;
 mod elements;
 mod encoder;

@@ -1,4 +1,6 @@
 // Times indexing and opening at the limits: 65,535 elements and 1,024 names of 32 bytes. The times go to standard error.
+#![tactic(auto)]
+
 mod books;
 
 use anyhow::anyhow;

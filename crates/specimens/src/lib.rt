@@ -1,3 +1,5 @@
 // Worked examples and limits, run through the public calls.
+#![tactic(auto)]
+
 #[cfg(test)]
 mod books;

@@ -1,4 +1,6 @@
 // Stream sets: for each node of a pattern a list of regions of one book, taken from the front; and the layers that narrow them.
+#![tactic(auto)]
+
 pub mod layer;
 pub mod region;
 pub mod rule;

@@ -1,4 +1,6 @@
 // The elements of a book, and what a lawful book is.
+#![tactic(auto)]
+
 pub mod element;
 pub mod laws;
 

@@ -7,14 +7,14 @@ use Rattle.book.proofs.Entering.{enter-at}
 use Rattle.book.proofs.reader.admit.Goals as goal
 use Rattle.book.proofs.reader.admit.Goals.{then-number-len+in-ok-push, else-number-len}
 
-pub returns-in-err-check-element : goal.returns-in-err-check-element
-returns-in-err-check-element c =
+pub returns-in-err-check_element : goal.returns-in-err-check_element
+returns-in-err-check_element c =
     let p = err_from_is_err_and c.from-residual.result c.from-residual.ensures.1 in
-    let f = c.in-err-check-element.field-0.0 in
+    let f = c.in-err-check_element.field-0.0 in
     let before = vec_items c.args.names.now.list in
     record {
-      element = rw (p.1, p.2) (enter-at c.args.opens c.args.count _ c.args.place (bytes_of before) c.args.name.now (Err f) c.number-of-number.ensures.value
-          (sym c.in-err-check-element.ensures.value));
+      element = rw (p.1, p.2) (enter-at c.args.opens c.args.count _ c.args.place (bytes_of before) c.args.name.now (Err f) c.number_of-number.ensures.value
+          (sym c.in-err-check_element.ensures.value));
       names = rw p.1 tt;
     }
 
@@ -22,10 +22,10 @@ pub returns : goal.returns
 returns c =
     let before = vec_items c.args.names.now.list in
     let name = c.args.name.now in
-    let number : c.number-of-number.result ≡ position (bytes_of before) name = c.number-of-number.ensures.value in
+    let number : c.number_of-number.result ≡ position (bytes_of before) name = c.number_of-number.ensures.value in
     let long : vec_len c.args.names.now.list ≡ length before = c.args.names.now.list.ok.0 in
     record {
-      element = enter-at c.args.opens c.args.count _ c.args.place (bytes_of before) name (Ok tt) number (sym c.in-ok-check-element.ensures.value);
+      element = enter-at c.args.opens c.args.count _ c.args.place (bytes_of before) name (Ok tt) number (sym c.in-ok-check_element.ensures.value);
       names = elim c.if-number-len.branch [
         | then-number-len+in-ok-push w ↦
             interned_new before name _ c.args.name refl (sym number ∙ w.if-number-len.true ∙ c.len.ensures ∙ long)

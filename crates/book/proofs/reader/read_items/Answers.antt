@@ -40,11 +40,11 @@ pub loop-reader-init : goal.loop-reader-init
 loop-reader-init c =
     (c.new-lexer.ensures.0, begin _ _ _ c.new-lexer.ensures.1 c.new-reader.ensures, subst Consistent (sym c.new-reader.ensures) initial_consistent)
 
-pub returns-in-err-check-length : goal.returns-in-err-check-length
-returns-in-err-check-length c =
+pub returns-in-err-check_length : goal.returns-in-err-check_length
+returns-in-err-check_length c =
     let p = err_from_is_err_and c.from-residual.result c.from-residual.ensures.1 in
-    let f = c.in-err-check-length.field-0.0 in
-    rw (p.1, p.2) (too_long c.args.text.now f (sym c.in-err-check-length.ensures.value))
+    let f = c.in-err-check_length.field-0.0 in
+    rw (p.1, p.2) (too_long c.args.text.now f (sym c.in-err-check_length.ensures.value))
 
 pub loop-reader-smaller : goal.loop-reader-smaller
 loop-reader-smaller c =
@@ -69,7 +69,7 @@ returns-in-err-token c =
     let p = err_from_is_err_and c.from-residual-in-err-token.result c.from-residual-in-err-token.ensures.1 in
     let f = c.in-err-token.field-0.0 in
     let t = turn (goal.at.returns-in-err-token c).After-next (Err f) c.in-err-token.was in
-    rw (p.1, p.2) (book_fails c.args.text.now (Refused f) c.in-ok-check-length.ensures.short (lex_fails _ _ _ c.loop-reader.invariant.1 f (sym t.item)))
+    rw (p.1, p.2) (book_fails c.args.text.now (Refused f) c.in-ok-check_length.ensures.short (lex_fails _ _ _ c.loop-reader.invariant.1 f (sym t.item)))
 
 pub returns-in-err-take : goal.returns-in-err-take
 returns-in-err-take c =
@@ -77,7 +77,7 @@ returns-in-err-take c =
     let e = c.in-err-take.field-0.0 in
     let t = token-turn (goal.at.returns-in-err-take c).In-Some in
     let i = item_of c.in-Some.token in
-    rw (p.1, p.2) (book_fails c.args.text.now e c.in-ok-check-length.ensures.short
+    rw (p.1, p.2) (book_fails c.args.text.now e c.in-ok-check_length.ensures.short
     (step_fails _ _ _ c.loop-reader.invariant.1 i e t.inside (sym t.item)
     (subst (λ p. Fails (step (state_of c.loop-reader.reader) p i) e) t.parts.written.place c.in-err-take.ensures)))
 
@@ -87,10 +87,10 @@ returns-in-err-finish c =
     let e = c.in-err-finish.field-0.0 in
     let bs = c.args.text.now in
     let end = ended (goal.at.returns-in-err-finish c).After-next (c.in-ok-token.was ∙ ap Ok c.in-default.is) in
-    rw (p.1, p.2) (subst (λ r. Fails r e) (sym (book_is bs c.in-ok-check-length.ensures.short ∙ ap (λ r. and_then r (finished (length bs))) end)) c.in-err-finish.ensures)
+    rw (p.1, p.2) (subst (λ r. Fails r e) (sym (book_is bs c.in-ok-check_length.ensures.short ∙ ap (λ r. and_then r (finished (length bs))) end)) c.in-err-finish.ensures)
 
 pub returns : goal.returns
 returns c =
     let bs = c.args.text.now in
     let end = ended (goal.at.returns c).After-next (c.in-ok-token.was ∙ ap Ok c.in-default.is) in
-    book_is bs c.in-ok-check-length.ensures.short ∙ ap (λ r. and_then r (finished (length bs))) end ∙ c.in-ok-finish.ensures
+    book_is bs c.in-ok-check_length.ensures.short ∙ ap (λ r. and_then r (finished (length bs))) end ∙ c.in-ok-finish.ensures

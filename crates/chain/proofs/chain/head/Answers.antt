@@ -8,7 +8,7 @@ returns-in-default-find c =
     let view = c.args.view.now in
     let named = c.in-Some.ensures in
     no_list view.bytes.now (lawful_of _ view.lawful) (shape_of c.args.twig.now).nodes c.args.i named.0 c.in-Some.name.now named.1
-    c.element-count-in-default-find.result c.element-count-in-default-find.ensures c.in-default-find.ensures
+    c.element_count-in-default-find.result c.element_count-in-default-find.ensures c.in-default-find.ensures
 
 pub returns : goal.returns
 returns c =

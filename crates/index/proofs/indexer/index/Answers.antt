@@ -12,12 +12,12 @@ returns-in-err-len c =
     let f = c.in-err-len.field-0.0 in
     let book = c.in-ok-book.book in
     rw (p.1, p.2) (indexed-refused c.args.text.now c.args.out.now c.encode.new.out (tree_of book) c.in-ok-book.ensures f
-    (c.in-err-len.ensures.answer ∙ (λ i. encodes (c.as-slice.ensures.value i) (bytes_of (c.as-slice-2.ensures.value i)) (length c.args.out.now)))
+    (c.in-err-len.ensures.answer ∙ (λ i. encodes (c.as_slice.ensures.value i) (bytes_of (c.as_slice-2.ensures.value i)) (length c.args.out.now)))
     c.in-err-len.ensures.buffer)
 
 pub returns : goal.returns
 returns c =
     let book = c.in-ok-book.book in
     indexed-written c.args.text.now c.args.out.now c.encode.new.out (tree_of book) c.in-ok-book.ensures c.in-ok-len.len
-    (c.in-ok-len.ensures.answer ∙ (λ i. encodes (c.as-slice.ensures.value i) (bytes_of (c.as-slice-2.ensures.value i)) (length c.args.out.now)))
-    (c.in-ok-len.ensures.buffer ∙ (λ i. written (c.as-slice.ensures.value i) (bytes_of (c.as-slice-2.ensures.value i)) (Ok c.in-ok-len.len) c.args.out.now))
+    (c.in-ok-len.ensures.answer ∙ (λ i. encodes (c.as_slice.ensures.value i) (bytes_of (c.as_slice-2.ensures.value i)) (length c.args.out.now)))
+    (c.in-ok-len.ensures.buffer ∙ (λ i. written (c.as_slice.ensures.value i) (bytes_of (c.as_slice-2.ensures.value i)) (Ok c.in-ok-len.len) c.args.out.now))

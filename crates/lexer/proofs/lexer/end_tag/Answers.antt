@@ -6,7 +6,7 @@ use Rattle.lexer.proofs.lexer.end_tag.Goals.{In-62}
 
 -- the name is followed by `>`
 closed : (c : In-62) → get_or c.args.after.now c.in-ok-len.len 0 ≡ 62
-closed c = sym c.byte-at.ensures ∙ c.in-62.is
+closed c = sym c.byte_at.ensures ∙ c.in-62.is
 
 pub tag-requires : goal.tag-requires
 tag-requires c =

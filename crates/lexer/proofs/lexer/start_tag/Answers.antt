@@ -6,15 +6,15 @@ use Rattle.lexer.proofs.lexer.start_tag.Goals.{In-62, In-47, Then-close-eq62}
 
 -- the name is followed by `>`
 closed : (c : In-62) → get_or c.args.after.now c.in-ok-len.len 0 ≡ 62
-closed c = sym c.byte-at.ensures ∙ c.in-62.is
+closed c = sym c.byte_at.ensures ∙ c.in-62.is
 
 -- by `/`
 slashed : (c : In-47) → get_or c.args.after.now c.in-ok-len.len 0 ≡ 47
-slashed c = sym c.byte-at.ensures ∙ c.in-47.is
+slashed c = sym c.byte_at.ensures ∙ c.in-47.is
 
 -- by `/>`
 emptied : (c : Then-close-eq62) → get_or c.args.after.now (c.in-ok-len.len + 1) 0 ≡ 62
-emptied c = sym c.byte-at-close.ensures ∙ c.if-close-eq62.true
+emptied c = sym c.byte_at-close.ensures ∙ c.if-close-eq62.true
 
 pub tag-requires : goal.tag-requires
 tag-requires c =

@@ -11,7 +11,7 @@ use Rattle.report.proofs.outline.view_lines.Goals.{After-unwrap-element}
 
 -- the element's number is below the count
 below : (c : After-unwrap-element) → c.loop-k.k < element_count c.args.view.now.bytes.now
-below c = omega (arith, c.element-count-k-end.ensures, c.loop-k-test.true)
+below c = omega (arith, c.element_count-k-end.ensures, c.loop-k-test.true)
 
 pub unwrap-name-requires : goal.unwrap-name-requires
 unwrap-name-requires c =
@@ -29,11 +29,11 @@ loop-k-preserved c =
     (c.in-ok-line.ensures
     ∙ line_of bs (lawful_of _ view.lawful) c.loop-k.k c.unwrap-element.result known (sym c.element.ensures ∙ c.unwrap-element.ensures) c.unwrap-name.result
     (subst (NameIn bs c.unwrap-element.result.name) c.unwrap-name.ensures c.name.ensures))
-    (c.in-ok-extend-from-slice.ensures.items ∙ ap (λ l. vec_items c.loop-k.lines ++ l) c.as-slice.ensures.value)
+    (c.in-ok-extend_from_slice.ensures.items ∙ ap (λ l. vec_items c.loop-k.lines ++ l) c.as_slice.ensures.value)
 
 pub returns : goal.returns
 returns c =
     let bs = c.args.view.now.bytes.now in
-    c.in-ok-extend-from-slice-2.ensures.items
-    ∙ (λ i. all_done (names_of bs) (elements_of bs) c.loop-k.k (vec_items c.loop-k.lines) _ c.loop-k.invariant (omega (arith, length-elements_of bs, c.element-count-k-end.ensures)) i
-    ++ (c.as-slice-2.ensures.value ∙ c.in-ok-end.ensures) i)
+    c.in-ok-extend_from_slice-2.ensures.items
+    ∙ (λ i. all_done (names_of bs) (elements_of bs) c.loop-k.k (vec_items c.loop-k.lines) _ c.loop-k.invariant (omega (arith, length-elements_of bs, c.element_count-k-end.ensures)) i
+    ++ (c.as_slice-2.ensures.value ∙ c.in-ok-end.ensures) i)

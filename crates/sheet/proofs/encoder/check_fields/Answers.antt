@@ -9,15 +9,15 @@ returns-then-names-gt-MOST-NAMES c =
     let xs = c.args.names.now in
     sym (names-many c.args.elements.now (map (λ x. x.now) xs) (length xs) (length-map xs (λ x. x.now)) (omega arith) (omega arith))
 
-pub returns-in-err-check-numbers : goal.returns-in-err-check-numbers
-returns-in-err-check-numbers c =
+pub returns-in-err-check_numbers : goal.returns-in-err-check_numbers
+returns-in-err-check_numbers c =
     let xs = c.args.names.now in
     let e = counts_fit c.args.elements.now (map (λ x. x.now) xs) (length xs) (length-map xs (λ x. x.now)) (omega arith) (omega arith) in
     let p = err_from_is_err_and c.from-residual.result c.from-residual.ensures.1 in
-    rw (p.1, p.2) (then-refused _ _ _ c.in-err-check-numbers.ensures ∙ sym e)
+    rw (p.1, p.2) (then-refused _ _ _ c.in-err-check_numbers.ensures ∙ sym e)
 
 pub returns : goal.returns
 returns c =
     let xs = c.args.names.now in
     let e = counts_fit c.args.elements.now (map (λ x. x.now) xs) (length xs) (length-map xs (λ x. x.now)) (omega arith) (omega arith) in
-    c.check-lengths.ensures ∙ (then-granted _ _ _ c.in-ok-check-numbers.ensures ∙ sym e)
+    c.check_lengths.ensures ∙ (then-granted _ _ _ c.in-ok-check_numbers.ensures ∙ sym e)

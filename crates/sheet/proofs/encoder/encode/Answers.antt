@@ -12,9 +12,9 @@ fits : (es : List Element) (xs : List (Bor (List ℕ))) → Ok tt ≡ fields_fit
     → Roomy es (map (λ x. x.now) xs) × (length (map (λ x. x.now) xs) ≡ length xs)
 fits es xs e = (roomy es (map (λ x. x.now) xs) (sym e), length-map xs (λ x. x.now))
 
-pub joint-length-bytes-requires : goal.joint-length-bytes-requires
-joint-length-bytes-requires c =
-    let r = fits c.args.elements.now c.args.names.now c.in-ok-check-fields.ensures in
+pub joint_length-bytes-requires : goal.joint_length-bytes-requires
+joint_length-bytes-requires c =
+    let r = fits c.args.elements.now c.args.names.now c.in-ok-check_fields.ensures in
     record { few = omega (arith, r.0.names, r.1); short = λ j h. r.0.short j (omega (arith, r.1)) }
 
 pub returns-then-out-total : goal.returns-then-out-total
@@ -23,30 +23,30 @@ returns-then-out-total c =
     let es = c.args.elements.now in
     let n = length-map xs (λ x. x.now) in
     let l = length-encoded es (map (λ x. x.now) xs) in
-    let total = 32 + 16 * length es + 12 * length xs + c.joint-length-bytes.result in
+    let total = 32 + 16 * length es + 12 * length xs + c.joint_length-bytes.result in
     record {
-      answer = encodes-short es (map (λ x. x.now) xs) (length c.args.out.now) total tt c.in-ok-check-fields.ensures (omega (arith, c.joint-length-bytes.ensures.is)) (omega arith);
+      answer = encodes-short es (map (λ x. x.now) xs) (length c.args.out.now) total tt c.in-ok-check_fields.ensures (omega (arith, c.joint_length-bytes.ensures.is)) (omega arith);
       buffer = refl;
     }
 
 pub overflow-cast-names : goal.overflow-cast-names
 overflow-cast-names c =
-    let r = fits c.args.elements.now c.args.names.now c.in-ok-check-fields.ensures in
+    let r = fits c.args.elements.now c.args.names.now c.in-ok-check_fields.ensures in
     omega (arith, r.0.names, r.1)
 
-pub put-header-requires : goal.put-header-requires
-put-header-requires c =
-    let r = fits c.args.elements.now c.args.names.now c.in-ok-check-fields.ensures in
-    record { few = (r.0.elements, omega (arith, r.0.names, r.1), c.joint-length-bytes.ensures.few); room = omega arith }
+pub put_header-requires : goal.put_header-requires
+put_header-requires c =
+    let r = fits c.args.elements.now c.args.names.now c.in-ok-check_fields.ensures in
+    record { few = (r.0.elements, omega (arith, r.0.names, r.1), c.joint_length-bytes.ensures.few); room = omega arith }
 
-pub put-elements-first-requires : goal.put-elements-first-requires
-put-elements-first-requires c =
-    let r = fits c.args.elements.now c.args.names.now c.in-ok-check-fields.ensures in
+pub put_elements-first-requires : goal.put_elements-first-requires
+put_elements-first-requires c =
+    let r = fits c.args.elements.now c.args.names.now c.in-ok-check_fields.ensures in
     record { few = r.0.elements; named = λ k h. omega (arith, r.0.named k h, r.0.names); room = omega arith }
 
-pub put-names-requires : goal.put-names-requires
-put-names-requires c =
-    let r = fits c.args.elements.now c.args.names.now c.in-ok-check-fields.ensures in
+pub put_names-requires : goal.put_names-requires
+put_names-requires c =
+    let r = fits c.args.elements.now c.args.names.now c.in-ok-check_fields.ensures in
     record { few = omega (arith, r.0.names, r.1); short = λ j h. r.0.short j (omega (arith, r.1)); room = omega arith }
 
 pub returns : goal.returns
@@ -54,13 +54,13 @@ returns c =
     let xs = c.args.names.now in
     let es = c.args.elements.now in
     let ts = map (λ x. x.now) xs in
-    let r = fits es xs c.in-ok-check-fields.ensures in
-    let total = 32 + 16 * length es + 12 * length xs + c.joint-length-bytes.result in
-    let w = sheet_written es ts (λ j. get_or c.put-elements-first.result j 0) (length xs) c.joint-length-bytes.result
-    c.args.out.now c.put-header.new.out c.put-elements-first.new.out c.put-names.new.out c.put-texts.new.out
-    (omega arith) (omega (arith, r.0.names, r.1)) c.put-elements-first.ensures.first (sym r.1) c.joint-length-bytes.ensures.is
-    c.put-header.ensures c.put-elements-first.ensures.puts c.put-names.ensures c.put-texts.ensures (omega arith) (omega arith) in
+    let r = fits es xs c.in-ok-check_fields.ensures in
+    let total = 32 + 16 * length es + 12 * length xs + c.joint_length-bytes.result in
+    let w = sheet_written es ts (λ j. get_or c.put_elements-first.result j 0) (length xs) c.joint_length-bytes.result
+    c.args.out.now c.put_header.new.out c.put_elements-first.new.out c.put_names.new.out c.put_texts.new.out
+    (omega arith) (omega (arith, r.0.names, r.1)) c.put_elements-first.ensures.first (sym r.1) c.joint_length-bytes.ensures.is
+    c.put_header.ensures c.put_elements-first.ensures.puts c.put_names.ensures c.put_texts.ensures (omega arith) (omega arith) in
     record {
-      answer = encodes-whole es ts (length c.args.out.now) total tt c.in-ok-check-fields.ensures w.0 (omega arith);
+      answer = encodes-whole es ts (length c.args.out.now) total tt c.in-ok-check_fields.ensures w.0 (omega arith);
       buffer = w.1;
     }

@@ -18,6 +18,6 @@ loop-k-preserved c =
     let e : m ≡ k + 1 = omega arith in
     let i = c.loop-k.invariant in (
       simp length-set i.0,
-      table_more es k m h e c.args.out.now c.loop-k.out _ _ (i.2 (get_or es k blank).name (c.requires.named k h)) (omega arith) i.1 c.put-element.ensures,
+      table_more es k m h e c.args.out.now c.loop-k.out _ _ (i.2 (get_or es k blank).name (c.requires.named k h)) (omega arith) i.1 c.put_element.ensures,
       seek_set es k m h e c.loop-k.nearest (get_or es k blank).name i.0 refl i.2,
     )

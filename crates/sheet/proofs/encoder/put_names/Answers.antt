@@ -23,8 +23,8 @@ loop-j-preserved c =
     let l = ap length e in (
       omega (arith, c.requires.short j (omega arith)),
       λ w p. c.loop-j.invariant.1 w
-          (name_more (λ i. get_or c.args.first.now i 0) ts j c.loop-j.offset t c.loop-j.out c.put-name.new.out w (at + 12 * j) (at + 12 * (j + 1))
-          (omega arith) e (omega arith) (omega arith) c.put-name.ensures p),
+          (name_more (λ i. get_or c.args.first.now i 0) ts j c.loop-j.offset t c.loop-j.out c.put_name.new.out w (at + 12 * j) (at + 12 * (j + 1))
+          (omega arith) e (omega arith) (omega arith) c.put_name.ensures p),
     )
 
 pub returns : goal.returns

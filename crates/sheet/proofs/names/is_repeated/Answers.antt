@@ -12,7 +12,7 @@ bounds-keys-i c = omega (arith, (c.requires.sized.0 2 (lit< tt)).1)
 pub returns-then-eq : goal.returns-then-eq
 returns-then-eq c =
     let d = slice_eq-Decides Decides-eqb _ _ _ c.eq.ensures in
-    (c.loop-i.i, c.loop-i-test.true, sym c.read-text.ensures ∙ (d.0 c.if-eq.true ∙ c.read-text-text.ensures))
+    (c.loop-i.i, c.loop-i-test.true, sym c.read_text.ensures ∙ (d.0 c.if-eq.true ∙ c.read_text-text.ensures))
 
 pub loop-i-preserved : goal.loop-i-preserved
 loop-i-preserved c =
@@ -22,8 +22,8 @@ loop-i-preserved c =
     elim c.else-keys-i.branch [
       | else-keys-i-via-then-keys-i+else-eq w ↦
           let d = slice_eq-Decides Decides-eqb _ _ _ w.eq.ensures in
-          both_ways _ w.if-eq.false (d.1 (w.read-text.ensures ∙ (e ∙ sym c.read-text-text.ensures)))
+          both_ways _ w.if-eq.false (d.1 (w.read_text.ensures ∙ (e ∙ sym c.read_text-text.ensures)))
       | else-keys-i-via-else-keys-i w ↦
           w.if-keys-i.false
-          (c.requires.keys c.loop-i.i c.loop-i-test.true ∙ (ap key_of (e ∙ sym c.read-text-text.ensures) ∙ sym c.key-own.ensures))
+          (c.requires.keys c.loop-i.i c.loop-i-test.true ∙ (ap key_of (e ∙ sym c.read_text-text.ensures) ∙ sym c.key-own.ensures))
     ])

@@ -2,11 +2,11 @@ use Rattle.std.proofs.Common.{◌∙◌, arith, rules}
 use Rattle.sheet.proofs.Sizes.{sized_length, sized_texts, text_is}
 use Rattle.sheet.proofs.read.read_text.Goals as goal
 
-pub read-u32-texts-requires : goal.read-u32-texts-requires
-read-u32-texts-requires c = let l = sized_length _ c.requires.sized in omega arith
+pub read_u32-texts-requires : goal.read_u32-texts-requires
+read_u32-texts-requires c = let l = sized_length _ c.requires.sized in omega arith
 
-pub read-name-name-requires : goal.read-name-name-requires
-read-name-name-requires c = let l = sized_length _ c.requires.sized in omega arith
+pub read_name-name-requires : goal.read_name-name-requires
+read_name-name-requires c = let l = sized_length _ c.requires.sized in omega arith
 
 pub slice-bounds-result-end : goal.slice-bounds-result-end
 slice-bounds-result-end c =
@@ -16,5 +16,5 @@ slice-bounds-result-end c =
 
 pub returns : goal.returns
 returns c =
-    text_is c.args.bytes.now c.args.j c.read-u32-texts.result c.read-name-name.result
-    (c.read-u32-texts.ensures ∙ sized_texts _ c.requires.sized) c.read-name-name.ensures
+    text_is c.args.bytes.now c.args.j c.read_u32-texts.result c.read_name-name.result
+    (c.read_u32-texts.ensures ∙ sized_texts _ c.requires.sized) c.read_name-name.ensures

@@ -5,4 +5,4 @@ use Rattle.sheet.proofs.write.put_u32.Goals as goal
 
 pub returns : goal.returns
 unfolding le32
-returns c = subst (λ (v : List ℕ). Puts v c.args.out.now c.args.at c.put.new.out) c.to-le-bytes.ensures c.put.ensures
+returns c = subst (λ (v : List ℕ). Puts v c.args.out.now c.args.at c.put.new.out) c.to_le_bytes.ensures c.put.ensures

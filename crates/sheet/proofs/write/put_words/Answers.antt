@@ -9,7 +9,7 @@ loop-i-preserved c =
     let i = c.loop-i.i in
     let at = c.args.at in
     λ w p. c.loop-i.invariant w
-    (word_more c.args.numbers.now i c.loop-i.out c.put-u32.new.out w (at + 4 * i) (at + 4 * (i + 1)) (omega arith) (omega arith) (omega arith) c.put-u32.ensures p)
+    (word_more c.args.numbers.now i c.loop-i.out c.put_u32.new.out w (at + 4 * i) (at + 4 * (i + 1)) (omega arith) (omega arith) (omega arith) c.put_u32.ensures p)
 
 pub returns : goal.returns
 returns c =

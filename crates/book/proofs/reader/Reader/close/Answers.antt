@@ -4,19 +4,19 @@ use Rattle.std.proofs.lemmas.Slice.Eq.{bytes_eq-Decides}
 use Rattle.std.proofs.lemmas.Bool.Decides.{same_from_decides}
 use Rattle.book.proofs.Steps.{elements-count, among, close_unlike, close_like}
 use Rattle.book.proofs.reader.Reader.close.Goals as goal
-use Rattle.book.proofs.reader.Reader.close.Goals.{After-same-name}
+use Rattle.book.proofs.reader.Reader.close.Goals.{After-same_name}
 
 -- whether the names are the same
-like : (c : After-same-name) (b : Bool) → c.same-name.result ≡ b → bytes_eq c.in-Some.open.name.now c.args.name.now ≡ b
+like : (c : After-same_name) (b : Bool) → c.same_name.result ≡ b → bytes_eq c.in-Some.open.name.now c.args.name.now ≡ b
 like c b e =
     let opened = c.in-Some.open.name.now in
     let closed = c.args.name.now in
-    sym (same_from_decides c.same-name.result (bytes_eq opened closed) c.same-name.ensures (bytes_eq-Decides opened closed)) ∙ e
+    sym (same_from_decides c.same_name.result (bytes_eq opened closed) c.same_name.ensures (bytes_eq-Decides opened closed)) ∙ e
 
-pub returns-then-not-same-name : goal.returns-then-not-same-name
-returns-then-not-same-name c =
-    rw c.fault-then-not-same-name.ensures (close_unlike c.args.self.now (vec_items c.pop.new.self) c.in-Some.open c.in-Some.ensures.items c.args.place c.args.name.now
-    (like (goal.at.returns-then-not-same-name c).After-same-name false c.if-not-same-name.true))
+pub returns-then-not-same_name : goal.returns-then-not-same_name
+returns-then-not-same_name c =
+    rw c.fault-then-not-same_name.ensures (close_unlike c.args.self.now (vec_items c.pop.new.self) c.in-Some.open c.in-Some.ensures.items c.args.place c.args.name.now
+    (like (goal.at.returns-then-not-same_name c).After-same_name false c.if-not-same_name.true))
 
 pub index-mut-requires : goal.index-mut-requires
 index-mut-requires c =
@@ -26,4 +26,4 @@ index-mut-requires c =
 pub returns : goal.returns
 returns c =
     close_like c.args.self.now (vec_items c.pop.new.self) c.in-Some.open c.in-Some.ensures.items c.args.place c.args.name.now _ refl
-    (like (goal.at.returns c).After-same-name true c.if-not-same-name.false)
+    (like (goal.at.returns c).After-same_name true c.if-not-same_name.false)

@@ -26,8 +26,8 @@ returns c =
     let self = c.args.self.now in
     let name = c.args.name.now in
     let e = c.in-ok-element.element in
-    let x = ended e c.slash-of.result in
+    let x = ended e c.slash_of.result in
     let admitted = sym (at (goal.at.returns c).After-admit) ∙ c.in-ok-element.ensures.element in
     let es = pushed {was = vec_items self.elements} (x ∷ []) refl c.in-ok-push.was c.push.ensures.items in
     ap (λ r. and_then r (λ e. Ok (leaf (state_of self) c.args.place name e))) admitted
-    ∙ ap Ok (leaf_is self c.args.place name e x _ (vec_items c.admit.new.names.list) (ap (ended e) c.slash-of.ensures) es c.in-ok-element.ensures.names)
+    ∙ ap Ok (leaf_is self c.args.place name e x _ (vec_items c.admit.new.names.list) (ap (ended e) c.slash_of.ensures) es c.in-ok-element.ensures.names)

@@ -8,17 +8,17 @@ use Rattle.lexer.specs.Lex.{item_at}
 use Rattle.lexer.specs.Token.{whole_of, Finds}
 use Rattle.lexer.proofs.Steps.{next_item, next_moved, next-within, next_parts, next-refused, next-ended}
 use Rattle.lexer.proofs.lexer.Lexer.next.Goals as goal
-use Rattle.lexer.proofs.lexer.Lexer.next.Goals.{After-item-at}
+use Rattle.lexer.proofs.lexer.Lexer.next.Goals.{After-item_at}
 
 -- what `item_at` said of the part holds of the text from the place on
-told : (c : After-item-at) (r : Result Token Fault) → c.item-at.result ≡ r
+told : (c : After-item_at) (r : Result Token Fault) → c.item_at.result ≡ r
     → Finds c.args.self.now.at (item_at c.args.self.now.at (drop c.args.self.now.at c.args.self.now.text.now)) r
 told c r e =
     let lexer = c.args.self.now in
     subst (λ bs. Finds lexer.at (item_at lexer.at bs) r) (take_rest lexer.text.now lexer.at)
-    (subst (Finds lexer.at _) e c.item-at.ensures)
+    (subst (Finds lexer.at _) e c.item_at.ensures)
 
-before-end : (c : After-item-at) → c.args.self.now.at < length c.args.self.now.text.now
+before-end : (c : After-item_at) → c.args.self.now.at < length c.args.self.now.text.now
 before-end c = omega (arith, c.args.self.now.inside)
 
 pub returns-then-place-self : goal.returns-then-place-self
@@ -29,7 +29,7 @@ returns-then-place-self c =
 pub returns-in-err-token : goal.returns-in-err-token
 returns-in-err-token c =
     let p = err_from_is_err_and c.from-residual.result c.from-residual.ensures.1 in
-    let k = (goal.at.returns-in-err-token c).After-item-at in
+    let k = (goal.at.returns-in-err-token c).After-item_at in
     let lexer = c.args.self.now in
     record {
       text = refl;
@@ -40,7 +40,7 @@ returns-in-err-token c =
 
 pub invariant-of-self : goal.invariant-of-self
 invariant-of-self c =
-    let k = (goal.at.invariant-of-self c).After-item-at in
+    let k = (goal.at.invariant-of-self c).After-item_at in
     let lexer = c.args.self.now in
     let t = c.in-ok-token.token in
     let size : length c.whole.result.bytes.now ≡ length (whole_of t).bytes.now = ap (λ (part : Part). length part.bytes.now) c.whole.ensures in
@@ -48,7 +48,7 @@ invariant-of-self c =
 
 pub returns : goal.returns
 returns c =
-    let k = (goal.at.returns c).After-item-at in
+    let k = (goal.at.returns c).After-item_at in
     let lexer = c.args.self.now in
     let t = c.in-ok-token.token in
     let f = told k (Ok t) c.in-ok-token.was in

@@ -81,13 +81,13 @@ step-returns-in-err-edge t c =
     }
 
 -- from a turn's start into the branch, and to the branch's end
-enter : (t : ℕ) (c : step-In-ok-edge t) (m : Mark) (hs : List ℕ) → length hs ≡ c.args.depth → outcome c.loop-self.self m c.push-number.result hs step ≡ outcome c.inner-edge.new.self m c.push-number.result (c.push-number.result ∷ hs) (edge c.in-ok-edge.edge)
+enter : (t : ℕ) (c : step-In-ok-edge t) (m : Mark) (hs : List ℕ) → length hs ≡ c.args.depth → outcome c.loop-self.self m c.push-number.result hs step ≡ outcome c.inner_edge.new.self m c.push-number.result (c.push-number.result ∷ hs) (edge c.in-ok-edge.edge)
 enter t c m hs d =
-    let e = c.inner-edge.ensures in
+    let e = c.inner_edge.ensures in
     opens c.loop-self.self m _ hs c.loop-self-test.ensures (omega (arith, d, c.if-depth-ge-MOST-BRACKETS.false))
-    ∙ edged c.loop-self.self c.inner-edge.new.self e.kept _ m _ _ bracket _ c.in-ok-edge.ensures.told.1
+    ∙ edged c.loop-self.self c.inner_edge.new.self e.kept _ m _ _ bracket _ c.in-ok-edge.ensures.told.1
 
-cross : (t : ℕ) (c : step-In-ok-branch t) (m : Mark) (hs : List ℕ) → length hs ≡ c.args.depth → outcome c.inner-edge.new.self m c.push-number.result (c.push-number.result ∷ hs) (edge c.in-ok-edge.edge) ≡ outcome c.branch-self.new.self m c.in-ok-branch.field-0 (c.push-number.result ∷ hs) step
+cross : (t : ℕ) (c : step-In-ok-branch t) (m : Mark) (hs : List ℕ) → length hs ≡ c.args.depth → outcome c.inner_edge.new.self m c.push-number.result (c.push-number.result ∷ hs) (edge c.in-ok-edge.edge) ≡ outcome c.branch-self.new.self m c.in-ok-branch.field-0 (c.push-number.result ∷ hs) step
 cross t c m hs d =
     c.in-ok-branch.ensures.told.1 m (c.push-number.result ∷ hs) (deeper c.push-number.result hs _ d)
 

@@ -7,10 +7,10 @@ use Rattle.pattern.proofs.twig.Twig.new.Goals as goal
 
 pub returns : goal.returns
 unfolding run_in
-returns c = record { read = sym (ap (λ v. granted Any (v ∷ [])) c.root-a.ensures); twig = ap (λ v. shape Any (v ∷ [])) c.root-a.ensures }
+returns c = record { read = sym (ap (λ v. granted Any (v ∷ [])) c.root_a.ensures); twig = ap (λ v. shape Any (v ∷ [])) c.root_a.ensures }
 
 pub invariant-of-result : goal.invariant-of-result
 unfolding run_in
 invariant-of-result c =
     let e : read_pattern (codes "//a") ≡ granted Any (root_a ∷ []) = refl in
-    (omega arith, (omega arith, (refl, (∣ subst (λ v. LawfulTwig (v ∷ [])) (sym c.root-a.ensures) (granted-lawful (codes "//a") (shape Any (root_a ∷ [])) e) ∣₁, tt))))
+    (omega arith, (omega arith, (refl, (∣ subst (λ v. LawfulTwig (v ∷ [])) (sym c.root_a.ensures) (granted-lawful (codes "//a") (shape Any (root_a ∷ [])) e) ∣₁, tt))))

@@ -12,7 +12,7 @@ returns c =
     record {
       text = three (take b.len b.bytes) _ _ _ _ _ (name_of a.name) c.put.ensures.text c.put-2.ensures.text (c.put-3.ensures.text ∙ ap (λ x. take c.put-2.new.self.len c.put-2.new.self.bytes ++ x) (name-part a))
           ∙ ap (λ x. take b.len b.bytes ++ x)
-          ((λ z. c.close-text.ensures.text z ++ c.open-text.ensures.text z ++ name_of a.name)
-          ∙ piece-at c.args.before w.nodes w.len r _ _ (omega (arith, c.requires)) (omega (arith, w.few, w.table)) (c.is-some-later.ensures ∙ later-next _ _ _ _ c.next-child.ensures));
-      short = omega (arith, c.put.ensures.len, c.put-2.ensures.len, c.put-3.ensures.len, c.close-text.ensures.short, c.open-text.ensures.short, name-short a);
+          ((λ z. c.close_text.ensures.text z ++ c.open_text.ensures.text z ++ name_of a.name)
+          ∙ piece-at c.args.before w.nodes w.len r _ _ (omega (arith, c.requires)) (omega (arith, w.few, w.table)) (c.is_some-later.ensures ∙ later-next _ _ _ _ c.next_child.ensures));
+      short = omega (arith, c.put.ensures.len, c.put-2.ensures.len, c.put-3.ensures.len, c.close_text.ensures.short, c.open_text.ensures.short, name-short a);
     }

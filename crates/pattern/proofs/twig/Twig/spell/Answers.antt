@@ -13,7 +13,7 @@ returns c =
     let size = written b.bytes _ b.len (omega (arith, b.within, b.table)) c.spelled-text.ensures in
     let w = c.args.self.now in
     let all : b.len - 0 ≡ b.len = omega arith in
-    let copied = c.copy-from-slice.ensures.after ∙ ap (λ n. take n b.bytes) all ∙ c.spelled-text.ensures in
+    let copied = c.copy_from_slice.ensures.after ∙ ap (λ n. take n b.bytes) all ∙ c.spelled-text.ensures in
     record { standard = (one_spelling (shape_of w) (every w)).0; back = back (shape_of w) (every w); short = (one_spelling (shape_of w) (every w)).1; written = (sym size, λ z. copied z ++ drop ((all ∙ sym size) z) c.args.out.now) }
 
 pub returns-then-len-out : goal.returns-then-len-out

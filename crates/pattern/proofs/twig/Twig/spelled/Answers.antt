@@ -14,8 +14,8 @@ loop-i-init c =
     let some : 0 < length (vertices w.nodes w.len) = omega (arith, size, w.some) in
     let name : take (a.name.len - 0) a.name.bytes ≡ (get_or (vertices w.nodes w.len) 0 (vertex_of r)).name =
     name-part a ∙ ap (λ (v : Vertex). v.name) (sym (get_or-vertices w.nodes w.len 0 r (vertex_of r) w.some (omega (arith, w.few, w.table)))) in (
-      rest-start w.mark (take c.new-out.result.len c.new-out.result.bytes) (take c.put.new.self.len c.put.new.self.bytes) _ (take (a.name.len - 0) a.name.bytes) (vertices w.nodes w.len) (vertex_of r) some (ap (λ n. take n c.new-out.result.bytes) c.new-out.ensures) (c.put.ensures.text ∙ ap (λ x. take c.new-out.result.len c.new-out.result.bytes ++ x) c.lead-text.ensures.text) c.put-2.ensures.text name,
-      omega (arith, c.new-out.ensures, c.put.ensures.len, c.put-2.ensures.len, c.lead-text.ensures.short, name-short a),
+      rest-start w.mark (take c.new-out.result.len c.new-out.result.bytes) (take c.put.new.self.len c.put.new.self.bytes) _ (take (a.name.len - 0) a.name.bytes) (vertices w.nodes w.len) (vertex_of r) some (ap (λ n. take n c.new-out.result.bytes) c.new-out.ensures) (c.put.ensures.text ∙ ap (λ x. take c.new-out.result.len c.new-out.result.bytes ++ x) c.lead_text.ensures.text) c.put-2.ensures.text name,
+      omega (arith, c.new-out.ensures, c.put.ensures.len, c.put-2.ensures.len, c.lead_text.ensures.short, name-short a),
     )
 
 pub loop-i-preserved : goal.loop-i-preserved

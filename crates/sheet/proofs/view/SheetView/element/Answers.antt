@@ -2,5 +2,5 @@ use Rattle.std.proofs.Common.{arith}
 use Rattle.sheet.proofs.Sizes.{lawful-length}
 use Rattle.sheet.proofs.view.SheetView.element.Goals as goal
 
-pub read-element-requires : goal.read-element-requires
-read-element-requires c = let l = lawful-length _ c.args.self.now.lawful in omega arith
+pub read_element-requires : goal.read_element-requires
+read_element-requires c = let l = lawful-length _ c.args.self.now.lawful in omega arith

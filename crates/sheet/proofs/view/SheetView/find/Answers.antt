@@ -5,17 +5,17 @@ use Rattle.sheet.proofs.Sizes.{lawful_sized, lawful-text}
 use Rattle.sheet.proofs.view.SheetView.find.Goals as goal
 use Rattle.std.proofs.lemmas.Bool.Decides.{Decides-eqb}
 
-pub read-text-requires : goal.read-text-requires
-read-text-requires c =
+pub read_text-requires : goal.read_text-requires
+read_text-requires c =
     let h = c.args.self.now.lawful in
     record { sized = lawful_sized _ h; within = omega arith; fits = lawful-text _ h c.loop-j.j (omega arith) }
 
 pub returns-then-eq : goal.returns-then-eq
 returns-then-eq c =
     let d = slice_eq-Decides Decides-eqb _ _ _ c.eq.ensures in
-    (omega arith, sym c.read-text.ensures ∙ d.0 c.if-eq.true)
+    (omega arith, sym c.read_text.ensures ∙ d.0 c.if-eq.true)
 
 pub loop-j-preserved : goal.loop-j-preserved
 loop-j-preserved c =
     let d = slice_eq-Decides Decides-eqb _ _ _ c.eq.ensures in
-    below_more _ _ c.loop-j.invariant (λ e. both_ways _ c.if-eq.false (d.1 (c.read-text.ensures ∙ e)))
+    below_more _ _ c.loop-j.invariant (λ e. both_ways _ c.if-eq.false (d.1 (c.read_text.ensures ∙ e)))

@@ -2,5 +2,5 @@ use Rattle.std.proofs.Common.{arith}
 use Rattle.sheet.proofs.Sizes.{lawful-length}
 use Rattle.sheet.proofs.view.SheetView.next.Goals as goal
 
-pub read-next-requires : goal.read-next-requires
-read-next-requires c = let l = lawful-length _ c.args.self.now.lawful in omega arith
+pub read_next-requires : goal.read_next-requires
+read_next-requires c = let l = lawful-length _ c.args.self.now.lawful in omega arith

@@ -5,24 +5,24 @@ use Rattle.sheet.proofs.Opening.{opened_decides}
 use Rattle.sheet.proofs.view.SheetView.open.Goals as goal
 
 pub invariant-of-self : goal.invariant-of-self
-invariant-of-self c = (∣ c.in-ok-check-sheet.ensures ∣₁, tt)
+invariant-of-self c = (∣ c.in-ok-check_sheet.ensures ∣₁, tt)
 
-pub returns-in-err-check-sheet : goal.returns-in-err-check-sheet
-returns-in-err-check-sheet c =
+pub returns-in-err-check_sheet : goal.returns-in-err-check_sheet
+returns-in-err-check_sheet c =
     let p = err_from_is_err_and c.from-residual.result c.from-residual.ensures.1 in
-    let w = c.in-err-check-sheet.ensures in
+    let w = c.in-err-check_sheet.ensures in
     rw (p.1, p.2)
     (record {
       answer = w;
       whole = λ e. absurd (true≢false (sym e));
-      granted = opened_decides c.args.bytes.now (Err c.in-err-check-sheet.field-0.0) w;
+      granted = opened_decides c.args.bytes.now (Err c.in-err-check_sheet.field-0.0) w;
       shows = refl;
     })
 
 pub returns : goal.returns
 returns c =
     let bytes = c.args.bytes.now in
-    let l = c.in-ok-check-sheet.ensures in
+    let l = c.in-ok-check_sheet.ensures in
     record {
       answer = l;
       whole = λ _. sheet_of_its_tree bytes (λ i. omega (arith, c.type-inv.bytes i)) l;

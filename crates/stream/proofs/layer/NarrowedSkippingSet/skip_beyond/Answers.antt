@@ -7,6 +7,6 @@ returns g c =
     let below = c.args.self.now.below in
     let up = rising_part (g.S.StreamSet.laws.lawful below) (g.S.StreamSet.laws.part below c.args.i) in
     record {
-      less = beyond _ _ _ c.args.i c.args.s c.skip-beyond.ensures.less up;
-      book = c.skip-beyond.ensures.book;
+      less = beyond _ _ _ c.args.i c.args.s c.skip_beyond.ensures.less up;
+      book = c.skip_beyond.ensures.book;
     }

@@ -5,7 +5,7 @@ use Rattle.stream.proofs.layer.NarrowedStreamSet.advance.Goals as goal
 
 pub returns : goal.returns
 returns g c =
-    let h = c.first-kept.ensures in
+    let h = c.first_kept.ensures in
     record {
       less = advanced _ _ _ c.args.i c.advance.ensures.less h.passes ∙ ap (update c.args.i rest) h.same;
       book = c.advance.ensures.book ∙ h.book;
