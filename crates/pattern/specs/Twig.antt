@@ -1,6 +1,6 @@
 -- What a `Twig` stands for, and what the calls on it answer.
 use Rattle.std.specs.Prelude.{◌≡◌, ℕ, ◌<◌, ◌≤◌, List, ◌++◌, length, drop, Some, None, Ok, Err, Option, Result}
-use Rattle.std.specs.Borrow.{MutBor}
+use Rattle.std.specs.Borrow.{Bor}
 use Rattle.markup.specs.declared.fault.Fault.{Fault}
 use Rattle.markup.specs.declared.fault.Refusal.TheVariants.{SpellingWontFit}
 use Rattle.markup.specs.Faults.{fault}
@@ -16,7 +16,7 @@ abbrev pub shape_of : Twig → Shape
 shape_of w = shape w.mark (vertices w.nodes w.len)
 
 -- the name of node i: none past the last node
-abbrev pub NameOf : List Vertex → ℕ → Option (MutBor (List ℕ)) → Type 0
+abbrev pub NameOf : List Vertex → ℕ → Option (Bor (List ℕ)) → Type 0
 NameOf nodes i (Some a) = (i < length nodes) × (a.now ≡ (node_at nodes i).name)
 NameOf nodes i None = length nodes ≤ i
 

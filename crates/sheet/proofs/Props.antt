@@ -96,9 +96,9 @@ name_prop bs j a b =
 
 lawful_prop : (bs : List ℕ) → IsProp (LawfulSheet bs)
 lawful_prop bs a b =
-    let header : IsProp (RightHeader bs) = search (props, field_prop) in
-    let elements : IsProp ((k : ℕ) → k < element_count bs → RightElement bs k) = search (props, element_prop) in
-    let names : IsProp ((j : ℕ) → j < name_count bs → RightName bs j) = search (props, name_prop) in
+    let header : IsProp (RightHeader bs) = hlevel (props, field_prop) in
+    let elements : IsProp ((k : ℕ) → k < element_count bs → RightElement bs k) = hlevel (props, element_prop) in
+    let names : IsProp ((j : ℕ) → j < name_count bs → RightName bs j) = hlevel (props, name_prop) in
     λ i. record {
       header = header a.header b.header i;
       size = eq_prop _ _ a.size b.size i;

@@ -30,7 +30,7 @@ turn c r e =
 
 -- the turn with an item
 token-turn : (c : In-Some) → Turn c.args.text.now c.loop-reader.lexer.at c.next.new.self.at (Ok (Some c.in-Some.token))
-token-turn c = turn (goal.at.In-Some c).After-next _ (c.in-ok-token.was ∙ ap Ok c.in-Some.is)
+token-turn c = turn (goal.at.In-Some c).After-next _ (c.in_ok-token.was ∙ ap Ok c.in-Some.is)
 
 -- at the end of the text the reading stands at the reader's state
 ended : (c : After-next) → c.next.result ≡ Ok None → run (length c.args.text.now) initial 0 c.args.text.now ≡ Ok (state_of c.loop-reader.reader)
@@ -40,11 +40,11 @@ pub loop-reader-init : goal.loop-reader-init
 loop-reader-init c =
     (c.new-lexer.ensures.0, begin _ _ _ c.new-lexer.ensures.1 c.new-reader.ensures, subst Consistent (sym c.new-reader.ensures) initial_consistent)
 
-pub returns-in-err-check_length : goal.returns-in-err-check_length
-returns-in-err-check_length c =
-    let p = err_from_is_err_and c.from-residual.result c.from-residual.ensures.1 in
-    let f = c.in-err-check_length.field-0.0 in
-    rw (p.1, p.2) (too_long c.args.text.now f (sym c.in-err-check_length.ensures.value))
+pub returns-in_err-check_length : goal.returns-in_err-check_length
+returns-in_err-check_length c =
+    let p = err_from_is_err_and c.from_residual.result c.from_residual.ensures.1 in
+    let f = c.in_err-check_length.field-0.0 in
+    rw (p.1, p.2) (too_long c.args.text.now f (sym c.in_err-check_length.ensures.value))
 
 pub loop-reader-smaller : goal.loop-reader-smaller
 loop-reader-smaller c =
@@ -58,39 +58,39 @@ loop-reader-preserved c =
     let i = item_of c.in-Some.token in
     let s = state_of c.loop-reader.reader in
     let u = state_of c.take.new.self in
-    let taken : step s c.loop-reader.lexer.at i ≡ Ok u = ap (λ p. step s p i) (sym t.parts.written.place) ∙ c.in-ok-take.ensures in (
+    let taken : step s c.loop-reader.lexer.at i ≡ Ok u = ap (λ p. step s p i) (sym t.parts.written.place) ∙ c.in_ok-take.ensures in (
       c.next.ensures.text ∙ c.loop-reader.invariant.0,
       subst (λ q. Sofar c.args.text.now q u) (sym t.moved) (one_more _ _ s c.loop-reader.invariant.1 i u t.inside (sym t.item) taken),
       step_consistent s u _ i c.loop-reader.invariant.2 taken,
     )
 
-pub returns-in-err-token : goal.returns-in-err-token
-returns-in-err-token c =
-    let p = err_from_is_err_and c.from-residual-in-err-token.result c.from-residual-in-err-token.ensures.1 in
-    let f = c.in-err-token.field-0.0 in
-    let t = turn (goal.at.returns-in-err-token c).After-next (Err f) c.in-err-token.was in
-    rw (p.1, p.2) (book_fails c.args.text.now (Refused f) c.in-ok-check_length.ensures.short (lex_fails _ _ _ c.loop-reader.invariant.1 f (sym t.item)))
+pub returns-in_err-token : goal.returns-in_err-token
+returns-in_err-token c =
+    let p = err_from_is_err_and c.from_residual-in_err-token.result c.from_residual-in_err-token.ensures.1 in
+    let f = c.in_err-token.field-0.0 in
+    let t = turn (goal.at.returns-in_err-token c).After-next (Err f) c.in_err-token.was in
+    rw (p.1, p.2) (book_fails c.args.text.now (Refused f) c.in_ok-check_length.ensures.short (lex_fails _ _ _ c.loop-reader.invariant.1 f (sym t.item)))
 
-pub returns-in-err-take : goal.returns-in-err-take
-returns-in-err-take c =
-    let p = err_from_is_err_and c.from-residual-in-err-take.result c.from-residual-in-err-take.ensures.1 in
-    let e = c.in-err-take.field-0.0 in
-    let t = token-turn (goal.at.returns-in-err-take c).In-Some in
+pub returns-in_err-take : goal.returns-in_err-take
+returns-in_err-take c =
+    let p = err_from_is_err_and c.from_residual-in_err-take.result c.from_residual-in_err-take.ensures.1 in
+    let e = c.in_err-take.field-0.0 in
+    let t = token-turn (goal.at.returns-in_err-take c).In-Some in
     let i = item_of c.in-Some.token in
-    rw (p.1, p.2) (book_fails c.args.text.now e c.in-ok-check_length.ensures.short
+    rw (p.1, p.2) (book_fails c.args.text.now e c.in_ok-check_length.ensures.short
     (step_fails _ _ _ c.loop-reader.invariant.1 i e t.inside (sym t.item)
-    (subst (λ p. Fails (step (state_of c.loop-reader.reader) p i) e) t.parts.written.place c.in-err-take.ensures)))
+    (subst (λ p. Fails (step (state_of c.loop-reader.reader) p i) e) t.parts.written.place c.in_err-take.ensures)))
 
-pub returns-in-err-finish : goal.returns-in-err-finish
-returns-in-err-finish c =
-    let p = err_from_is_err_and c.from-residual-in-err-finish.result c.from-residual-in-err-finish.ensures.1 in
-    let e = c.in-err-finish.field-0.0 in
+pub returns-in_err-finish : goal.returns-in_err-finish
+returns-in_err-finish c =
+    let p = err_from_is_err_and c.from_residual-in_err-finish.result c.from_residual-in_err-finish.ensures.1 in
+    let e = c.in_err-finish.field-0.0 in
     let bs = c.args.text.now in
-    let end = ended (goal.at.returns-in-err-finish c).After-next (c.in-ok-token.was ∙ ap Ok c.in-default.is) in
-    rw (p.1, p.2) (subst (λ r. Fails r e) (sym (book_is bs c.in-ok-check_length.ensures.short ∙ ap (λ r. and_then r (finished (length bs))) end)) c.in-err-finish.ensures)
+    let end = ended (goal.at.returns-in_err-finish c).After-next (c.in_ok-token.was ∙ ap Ok c.in_default.is) in
+    rw (p.1, p.2) (subst (λ r. Fails r e) (sym (book_is bs c.in_ok-check_length.ensures.short ∙ ap (λ r. and_then r (finished (length bs))) end)) c.in_err-finish.ensures)
 
 pub returns : goal.returns
 returns c =
     let bs = c.args.text.now in
-    let end = ended (goal.at.returns c).After-next (c.in-ok-token.was ∙ ap Ok c.in-default.is) in
-    book_is bs c.in-ok-check_length.ensures.short ∙ ap (λ r. and_then r (finished (length bs))) end ∙ c.in-ok-finish.ensures
+    let end = ended (goal.at.returns c).After-next (c.in_ok-token.was ∙ ap Ok c.in_default.is) in
+    book_is bs c.in_ok-check_length.ensures.short ∙ ap (λ r. and_then r (finished (length bs))) end ∙ c.in_ok-finish.ensures

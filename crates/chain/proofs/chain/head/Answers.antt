@@ -3,12 +3,12 @@ use Rattle.sheet.proofs.Props.{lawful_of}
 use Rattle.chain.proofs.Naming.{no_list, list_found}
 use Rattle.chain.proofs.chain.head.Goals as goal
 
-pub returns-in-default-find : goal.returns-in-default-find
-returns-in-default-find c =
+pub returns-in_default-find : goal.returns-in_default-find
+returns-in_default-find c =
     let view = c.args.view.now in
     let named = c.in-Some.ensures in
     no_list view.bytes.now (lawful_of _ view.lawful) (shape_of c.args.twig.now).nodes c.args.i named.0 c.in-Some.name.now named.1
-    c.element_count-in-default-find.result c.element_count-in-default-find.ensures c.in-default-find.ensures
+    c.element_count-in_default-find.result c.element_count-in_default-find.ensures c.in_default-find.ensures
 
 pub returns : goal.returns
 returns c =

@@ -15,12 +15,12 @@ written a b d n e₀ e₁ e₂ e₃ e₄ e₅ e₆ e₇ e₈ =
 
 pub returns : goal.returns
 returns c = written (decimal c.args.element.start) (decimal c.args.element.«end») (decimal c.args.element.level) c.args.name.now
-    c.in-ok-line.ensures.items
-    c.in-ok-push_decimal.ensures
-    c.in-ok-push.ensures.items
-    c.in-ok-push_decimal-2.ensures
-    c.in-ok-push-2.ensures.items
-    (c.in-ok-push_decimal-3.ensures ∙ ap (λ (x : ℕ). vec_items c.push-2.new.self ++ decimal x) c.from.ensures)
-    c.in-ok-push-3.ensures.items
-    c.in-ok-extend_from_slice.ensures.items
-    c.in-ok-push-4.ensures.items
+    c.in_ok-line.ensures.items
+    c.in_ok-push_decimal.ensures
+    c.in_ok-push.ensures.items
+    c.in_ok-push_decimal-2.ensures
+    c.in_ok-push-2.ensures.items
+    (c.in_ok-push_decimal-3.ensures ∙ ap (λ (x : ℕ). vec_items c.push-2.new.self ++ decimal x) c.from.ensures)
+    c.in_ok-push-3.ensures.items
+    c.in_ok-extend_from_slice.ensures.items
+    c.in_ok-push-4.ensures.items

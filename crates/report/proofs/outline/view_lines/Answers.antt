@@ -26,14 +26,14 @@ loop-k-preserved c =
     let known = below (goal.at.loop-k-preserved c).After-unwrap-element in
     one_more (names_of bs) (elements_of bs) c.loop-k.k (vec_items c.loop-k.lines) _ c.loop-k.invariant blank _ _
     (omega (arith, length-elements_of bs))
-    (c.in-ok-line.ensures
+    (c.in_ok-line.ensures
     ∙ line_of bs (lawful_of _ view.lawful) c.loop-k.k c.unwrap-element.result known (sym c.element.ensures ∙ c.unwrap-element.ensures) c.unwrap-name.result
     (subst (NameIn bs c.unwrap-element.result.name) c.unwrap-name.ensures c.name.ensures))
-    (c.in-ok-extend_from_slice.ensures.items ∙ ap (λ l. vec_items c.loop-k.lines ++ l) c.as_slice.ensures.value)
+    (c.in_ok-extend_from_slice.ensures.items ∙ ap (λ l. vec_items c.loop-k.lines ++ l) c.as_slice.ensures.value)
 
 pub returns : goal.returns
 returns c =
     let bs = c.args.view.now.bytes.now in
-    c.in-ok-extend_from_slice-2.ensures.items
+    c.in_ok-extend_from_slice-2.ensures.items
     ∙ (λ i. all_done (names_of bs) (elements_of bs) c.loop-k.k (vec_items c.loop-k.lines) _ c.loop-k.invariant (omega (arith, length-elements_of bs, c.element_count-k-end.ensures)) i
-    ++ (c.as_slice-2.ensures.value ∙ c.in-ok-end.ensures) i)
+    ++ (c.as_slice-2.ensures.value ∙ c.in_ok-end.ensures) i)

@@ -20,6 +20,6 @@ loop-k-preserved c =
     let i = c.loop-k.invariant in
     let x = ap (λ (r : Element). r.name) c.read_element-name.ensures in (
       i.0,
-      linked_other bs k m c.read_element-name.result.name h e x c.loop-k.first i.2 c.loop-k.wrong c.if-name-lt-MOST-NAMES.false i.1,
-      firsts_other bs k m c.read_element-name.result.name h e x c.loop-k.first i.2 c.if-name-lt-MOST-NAMES.false,
+      linked_other bs k m c.read_element-name.result.name h e x c.loop-k.first i.2 c.loop-k.wrong c.if-name-lt-MOST_NAMES.false i.1,
+      firsts_other bs k m c.read_element-name.result.name h e x c.loop-k.first i.2 c.if-name-lt-MOST_NAMES.false,
     )

@@ -19,8 +19,8 @@ returns c =
     let n = length-map xs (λ x. x.now) in
     sym (c.loop-j.invariant ∙ ap (λ (us : List (List ℕ)). names_fit us (c.args.table + 12 * j)) (drop_all j (map (λ x. x.now) xs) (omega arith)))
 
-pub returns-then-name-gt-MOST-BYTES : goal.returns-then-name-gt-MOST-BYTES
-returns-then-name-gt-MOST-BYTES c =
+pub returns-then-name-gt-MOST_BYTES : goal.returns-then-name-gt-MOST_BYTES
+returns-then-name-gt-MOST_BYTES c =
     let j = c.loop-j.j in
     let xs = c.args.names.now in
     let n = length-map xs (λ x. x.now) in

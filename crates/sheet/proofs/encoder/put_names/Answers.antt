@@ -4,8 +4,8 @@ use Rattle.sheet.proofs.Parts.{name_more}
 use Rattle.sheet.proofs.Puts.{puts_none}
 use Rattle.sheet.proofs.encoder.put_names.Goals as goal
 
-pub overflow-cast-length : goal.overflow-cast-length
-overflow-cast-length c =
+pub overflow_cast-length : goal.overflow_cast-length
+overflow_cast-length c =
     let j = c.loop-j.j in
     let xs = c.args.names.now in
     let g = ap length (get_or-map (λ x. x.now) xs j (record { ref_ptr = (0, 0); now = [] }) [] (omega arith)) in
@@ -34,8 +34,8 @@ returns c =
     let d = drop_all c.loop-j.j (map (λ x. x.now) xs) (omega arith) in
     c.loop-j.invariant.1 c.loop-j.out (rw d (puts_none c.loop-j.out (c.args.at + 12 * c.loop-j.j)))
 
-pub overflow-add-offset : goal.overflow-add-offset
-overflow-add-offset c =
+pub overflow_add-offset : goal.overflow_add-offset
+overflow_add-offset c =
     let j = c.loop-j.j in
     let xs = c.args.names.now in
     let n = length-map xs (λ x. x.now) in

@@ -4,8 +4,8 @@ use Rattle.std.proofs.lemmas.List.{length-set, get_or-set_same, get_or-set_other
 use Rattle.sheet.specs.Links.{key_of}
 use Rattle.sheet.proofs.names.check_names.Goals as goal
 
-pub overflow-add-end : goal.overflow-add-end
-overflow-add-end c =
+pub overflow_add-end : goal.overflow_add-end
+overflow_add-end c =
     let n = c.if-not-is_right_name.ensures in
     let l = ap (λ (x : NameRecord). x.length) c.read_name-end.ensures in
     let h = c.requires.sized.0 in

@@ -8,8 +8,8 @@ read_u32-texts-requires c = let l = sized_length _ c.requires.sized in omega ari
 pub read_name-name-requires : goal.read_name-name-requires
 read_name-name-requires c = let l = sized_length _ c.requires.sized in omega arith
 
-pub slice-bounds-result-end : goal.slice-bounds-result-end
-slice-bounds-result-end c =
+pub slice_bounds-result-end : goal.slice_bounds-result-end
+slice_bounds-result-end c =
     let l = sized_length _ c.requires.sized in
     let t = sized_texts _ c.requires.sized in
     search rules

@@ -4,8 +4,8 @@ use Rattle.stream.proofs.Parts.{few-part}
 use Rattle.stream.proofs.Positions.{update-update, update_here, update_fixed, nil-from-first, cons-from-first}
 use Rattle.stream.proofs.walk.count.Goals as goal
 
-pub overflow-add-n : goal.overflow-add-n
-overflow-add-n g c =
+pub overflow_add-n : goal.overflow_add-n
+overflow_add-n g c =
     let laws = g.S.StreamSet.laws in
     let few = few-part (laws.lawful c.args.set.now) (laws.part c.args.set.now c.args.i) in
     omega arith
@@ -24,7 +24,7 @@ pub returns : goal.returns
 returns g c =
     let m = g.S.StreamSet in
     let left = m.lists c.loop-set.set in
-    let none : left c.args.i ≡ [] = nil-from-first _ (sym c.tell.ensures.told ∙ c.in-default.is) in
+    let none : left c.args.i ≡ [] = nil-from-first _ (sym c.tell.ensures.told ∙ c.in_default.is) in
     let over = ap length none in
     record {
       count = omega arith;

@@ -18,8 +18,8 @@ returns-then-not-same_name c =
     rw c.fault-then-not-same_name.ensures (close_unlike c.args.self.now (vec_items c.pop.new.self) c.in-Some.open c.in-Some.ensures.items c.args.place c.args.name.now
     (like (goal.at.returns-then-not-same_name c).After-same_name false c.if-not-same_name.true))
 
-pub index-mut-requires : goal.index-mut-requires
-index-mut-requires c =
+pub index_mut-requires : goal.index_mut-requires
+index_mut-requires c =
     let self = c.args.self.now in
     omega (arith, elements-count self, among self (vec_items c.pop.new.self) c.in-Some.open c.in-Some.ensures.items c.args.place c.args.name.now c.requires.consistent)
 

@@ -26,32 +26,32 @@ returns-then-place-self c =
     let lexer = c.args.self.now in
     record { text = refl; item = next-ended lexer.text.now lexer.at c.if-place-self.true; moved = refl; parts = tt }
 
-pub returns-in-err-token : goal.returns-in-err-token
-returns-in-err-token c =
-    let p = err_from_is_err_and c.from-residual.result c.from-residual.ensures.1 in
-    let k = (goal.at.returns-in-err-token c).After-item_at in
+pub returns-in_err-token : goal.returns-in_err-token
+returns-in_err-token c =
+    let p = err_from_is_err_and c.from_residual.result c.from_residual.ensures.1 in
+    let k = (goal.at.returns-in_err-token c).After-item_at in
     let lexer = c.args.self.now in
     record {
       text = refl;
-      item = rw (p.1, p.2) (next-refused lexer.text.now lexer.at _ (before-end k) (told k (Err _) c.in-err-token.was));
+      item = rw (p.1, p.2) (next-refused lexer.text.now lexer.at _ (before-end k) (told k (Err _) c.in_err-token.was));
       moved = rw p.1 refl;
       parts = rw p.1 tt;
     }
 
-pub invariant-of-self : goal.invariant-of-self
-invariant-of-self c =
-    let k = (goal.at.invariant-of-self c).After-item_at in
+pub invariant_of-self : goal.invariant_of-self
+invariant_of-self c =
+    let k = (goal.at.invariant_of-self c).After-item_at in
     let lexer = c.args.self.now in
-    let t = c.in-ok-token.token in
+    let t = c.in_ok-token.token in
     let size : length c.whole.result.bytes.now ≡ length (whole_of t).bytes.now = ap (λ (part : Part). length part.bytes.now) c.whole.ensures in
-    (omega (arith, next-within lexer.text.now lexer.at t (before-end k) (told k (Ok t) c.in-ok-token.was)), tt)
+    record { inside = omega (arith, next-within lexer.text.now lexer.at t (before-end k) (told k (Ok t) c.in_ok-token.was)) }
 
 pub returns : goal.returns
 returns c =
     let k = (goal.at.returns c).After-item_at in
     let lexer = c.args.self.now in
-    let t = c.in-ok-token.token in
-    let f = told k (Ok t) c.in-ok-token.was in
+    let t = c.in_ok-token.token in
+    let f = told k (Ok t) c.in_ok-token.was in
     record {
       text = refl;
       item = next_item lexer.text.now lexer.at t (before-end k) f;

@@ -9,8 +9,13 @@ pub returns : goal.returns
 unfolding run_in
 returns c = record { read = sym (ap (λ v. granted Any (v ∷ [])) c.root_a.ensures); twig = ap (λ v. shape Any (v ∷ [])) c.root_a.ensures }
 
-pub invariant-of-result : goal.invariant-of-result
+pub invariant_of-result : goal.invariant_of-result
 unfolding run_in
-invariant-of-result c =
+invariant_of-result c =
     let e : read_pattern (codes "//a") ≡ granted Any (root_a ∷ []) = refl in
-    (omega arith, (omega arith, (refl, (∣ subst (λ v. LawfulTwig (v ∷ [])) (sym c.root_a.ensures) (granted-lawful (codes "//a") (shape Any (root_a ∷ [])) e) ∣₁, tt))))
+    record {
+      some = omega arith;
+      few = omega arith;
+      table = refl;
+      lawful = ∣ subst (λ v. LawfulTwig (v ∷ [])) (sym c.root_a.ensures) (granted-lawful (codes "//a") (shape Any (root_a ∷ [])) e) ∣₁;
+    }

@@ -4,13 +4,13 @@ use Rattle.pattern.proofs.Exact.{reading_short}
 use Rattle.pattern.proofs.Trees.{grammar, not-derived}
 use Rattle.pattern.proofs.twig.Twig.read.Goals as goal
 
-pub returns-in-err-self : goal.returns-in-err-self
-returns-in-err-self c =
-    let p = err_from_is_err_and c.from-residual.result c.from-residual.ensures.1 in
-    let e = reading_short _ c.if-text-gt-MOST-BYTES.false ∙ c.in-err-self.ensures in
+pub returns-in_err-self : goal.returns-in_err-self
+returns-in_err-self c =
+    let p = err_from_is_err_and c.from_residual.result c.from_residual.ensures.1 in
+    let e = reading_short _ c.if-text-gt-MOST_BYTES.false ∙ c.in_err-self.ensures in
     rw (p.1, p.2) (record { turned = (e, refl); grammar = not-derived _ _ e })
 
 pub returns : goal.returns
 returns c =
-    let e = reading_short _ c.if-text-gt-MOST-BYTES.false ∙ c.in-ok-self.ensures in
+    let e = reading_short _ c.if-text-gt-MOST_BYTES.false ∙ c.in_ok-self.ensures in
     record { turned = e; grammar = (grammar _ _).0 e }

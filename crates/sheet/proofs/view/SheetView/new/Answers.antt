@@ -3,9 +3,9 @@ use Rattle.layout.specs.Encoding.{le16, le32}
 use Rattle.sheet.proofs.First.{first-lawful}
 use Rattle.sheet.proofs.view.SheetView.new.Goals as goal
 
-pub invariant-of-result : goal.invariant-of-result
+pub invariant_of-result : goal.invariant_of-result
 unfolding le16 le32
-invariant-of-result c = (∣ first-lawful ∣₁, tt)
+invariant_of-result c = record { lawful = ∣ first-lawful ∣₁ }
 
 pub returns : goal.returns
 unfolding le16 le32
