@@ -1,6 +1,5 @@
 -- The search for a name among the parts of a text.
 use Rattle.std.proofs.Common.{◌≡◌, ℕ, zero, suc, ◌+◌, ◌<◌, ◌≤◌, Bool, true, false, cond, not, List, [], ◌∷◌, ◌++◌, length, get_or, drop, Decides, sym, refl, ap, ◌∙◌, subst, ⊎_elim, arith, Bor}
-use Rattle.std.specs.Cmp.Lexicographic.{Matches}
 use Rattle.std.specs.Str.{bytes_eq}
 use Rattle.std.proofs.lemmas.Slice.Eq.{slice_eq-Decides, bytes_eq-Decides}
 use Rattle.std.proofs.lemmas.List.{get_or-map, length-map, map_push}
@@ -10,10 +9,6 @@ use Rattle.std.proofs.lemmas.Bool.Decides.{same_from_decides, Decides-eqb}
 use Rattle.book.specs.Parts.{bytes_of}
 use Rattle.book.specs.Document.{position, intern}
 use Rattle.book.specs.Reading.{Different}
-
--- what `==` on slices of bytes answers
-pub compared : (xs ys : List ℕ) (r : Bool) → Matches (λ (a b : ℕ) (t : Bool). Decides t (a ≡ b)) xs ys r → r ≡ bytes_eq xs ys
-compared xs ys r m = same_from_decides r (bytes_eq xs ys) (slice_eq-Decides Decides-eqb xs ys r m) (bytes_eq-Decides xs ys)
 
 module _ (names : List (Bor (List ℕ))) (name : List ℕ) (i : ℕ) where
   long : length (bytes_of names) ≡ length names
