@@ -10,7 +10,7 @@ use Rattle.book.specs.Reading.{read_book}
 use Rattle.book.specs.Refusing.{Refuses}
 use Rattle.book.specs.Views.{tree_of, Answers}
 use Rattle.book.specs.Answer.{nodes_of, Grants, ReadsBook}
-use Rattle.book.specs.Promises.{GrantedExactly, OneAnswer, EveryTextHasOneAnswer}
+use Rattle.book.specs.Promises.{GrantedExactly, EveryTextHasOneAnswer}
 use Rattle.book.proofs.Complete.{complete}
 use Rattle.book.proofs.Numbering.{names_are_numbered, renumbered}
 use Rattle.book.proofs.Refusals.{refused_exactly}

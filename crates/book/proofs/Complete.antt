@@ -1,5 +1,5 @@
 -- A book text within the limits is granted, with its elements.
-use Rattle.std.proofs.Common.{◌≡◌, ℕ, zero, suc, ◌+◌, ◌-◌, ◌<◌, ◌≤◌, Bool, true, false, cond, not, ◌&&◌, ◌||◌, eqb, leb, ◌⊎◌, List, [], ◌∷◌, ◌++◌, length, set, Ok, Err, Result, sym, refl, ap, ◌∙◌, subst, inl, inr, ⊎_elim, append_assoc, append-nil, arith, length-append}
+use Rattle.std.proofs.Common.{◌≡◌, ℕ, suc, ◌+◌, ◌<◌, ◌≤◌, true, false, not, ◌&&◌, eqb, List, [], ◌∷◌, ◌++◌, length, set, Ok, sym, refl, ap, ◌∙◌, subst, inl, inr, append_assoc, append-nil, arith, length-append}
 use lib.Seq.{set-append_seam}
 use Rattle.std.specs.Str.{bytes_eq}
 use Rattle.std.proofs.lemmas.Slice.Eq.{bytes_eq-Decides}
@@ -10,7 +10,7 @@ use Rattle.tree.specs.declared.element.Element.{Element}
 use Rattle.lexer.specs.Item.{Item.start, Item.end, Item.empty, spelling}
 use Rattle.book.specs.Document.{Content, Content.none, Content.byte, Content.bare, Content.full, spell, Lawful, Blank, Single, Node, nodes_at, Document, position, intern, numbered, named, indexed, Shallow, Within}
 use Rattle.book.specs.Reading.{State, initial, enter, ended, opened, leaf, finished, read_book}
-use Rattle.book.proofs.Entering.{Allowed, allowed-ok, enter_by}
+use Rattle.book.proofs.Entering.{allowed-ok, enter_by}
 use Rattle.book.proofs.Machine.{runs, runs-byte, runs_tag}
 use Rattle.book.proofs.Naming.{position-below}
 use Rattle.book.proofs.Numbering.{named_grows, named-append, numbered-append, numbered-length}

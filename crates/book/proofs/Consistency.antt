@@ -1,10 +1,9 @@
 -- Each item keeps the state consistent.
-use Rattle.std.proofs.Common.{◌≡◌, ℕ, ◌+◌, ◌<◌, ◌≤◌, Bool, true, false, cond, eqb, List, [], ◌∷◌, ◌++◌, length, Ok, Err, Result, sym, refl, ap, ◌∙◌, subst, ⊎_elim, arith, length-append, length-set}
+use Rattle.std.proofs.Common.{◌≡◌, ℕ, ◌+◌, ◌<◌, ◌≤◌, eqb, List, [], ◌∷◌, length, Ok, Err, Result, subst, arith, length-append, length-set}
 use Rattle.std.specs.List.{AllByRecursion as Every}
 use Rattle.std.specs.Str.{bytes_eq}
 use Rattle.std.proofs.ByRecursion.{All-weaker}
 use Rattle.markup.specs.declared.fault.Fault.{Fault}
-use Rattle.markup.specs.Faults.{and_then}
 use Rattle.markup.proofs.Granted.{Granted, grant, refuse, either, chain}
 use Rattle.tree.specs.declared.element.Element.{Element}
 use Rattle.lexer.specs.Item.{Item, Item.start, Item.end, Item.empty, Item.text}

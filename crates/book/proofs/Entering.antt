@@ -1,10 +1,9 @@
 -- What the tests on the tag of an element come to.
-use Rattle.std.proofs.Common.{◌≡◌, ℕ, ◌<◌, ◌≤◌, Bool, true, false, not, ◌&&◌, ◌||◌, eqb, leb, List, Ok, Err, Result, sym, refl, ap, ◌∙◌, arith}
+use Rattle.std.proofs.Common.{◌≡◌, ℕ, ◌<◌, ◌≤◌, false, not, ◌&&◌, ◌||◌, eqb, leb, List, Ok, Result, sym, ap, ◌∙◌, arith}
 use Rattle.std.proofs.lemmas.Bool.{cond-false, or_from, or_parts, lt-leb, leb-false}
 use Rattle.markup.specs.declared.fault.Fault.{Fault}
 use Rattle.markup.specs.Faults.{and_then}
 use Rattle.markup.proofs.Granted.{Granted, grant, refuse, either}
-use Rattle.tree.specs.declared.element.Element.{Element}
 use Rattle.book.specs.Document.{position}
 use Rattle.book.specs.Reading.{allowed, enter}
 

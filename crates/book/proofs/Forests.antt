@@ -1,11 +1,11 @@
 -- The elements of a row are nested or apart, and their levels count what contains them.
-use Rattle.std.proofs.Common.{◌≡◌, ℕ, zero, suc, ◌+◌, ◌-◌, ◌<◌, ◌≤◌, Bool, true, false, cond, ◌&&◌, ltb, ◌⊎◌, List, [], ◌∷◌, ◌++◌, length, get_or, sym, refl, ap, ◌∙◌, subst, inl, inr, ⊎_elim, arith, length-append}
+use Rattle.std.proofs.Common.{◌≡◌, ℕ, zero, suc, ◌+◌, ◌<◌, ◌≤◌, true, false, cond, ◌⊎◌, List, [], ◌∷◌, ◌++◌, length, get_or, sym, refl, ap, subst, inl, inr, arith, length-append}
 use Rattle.std.specs.List.{AllByRecursion as Every}
 use Rattle.std.proofs.ByRecursion.{All-append, All-get_or, All-weaker}
 use Rattle.std.proofs.lemmas.Bool.{lt-ltb, le-ltb, and_from, and_left, and_right}
 use Rattle.tree.specs.Region.{Region, Contains, contains}
 use Rattle.lexer.specs.Item.{Item.start, Item.end, Item.empty, spelling}
-use Rattle.book.specs.Document.{Content, Content.none, Content.byte, Content.bare, Content.full, spell, Blank, Single, Node, nodes_at}
+use Rattle.book.specs.Document.{Content, Content.none, Content.byte, Content.bare, Content.full, spell, Single, Node, nodes_at}
 use Rattle.book.proofs.Complete.{blank-nodes}
 
 abbrev pub region_of_node : Node → Region

@@ -1,13 +1,12 @@
 -- The reading of a text item by item, and what the reader's loop keeps.
-use Rattle.std.proofs.Common.{◌≡◌, ℕ, zero, suc, ◌+◌, ◌-◌, ◌<◌, ◌≤◌, List, [], ◌∷◌, length, drop, Some, None, Ok, Err, Option, Result, sym, refl, ap, ◌∙◌, subst, arith, length-append, length-drop}
-use Rattle.std.proofs.lemmas.List.{drop-drop, drop_all}
+use Rattle.std.proofs.Common.{◌≡◌, ℕ, zero, suc, ◌+◌, ◌-◌, ◌<◌, ◌≤◌, List, [], ◌∷◌, length, drop, Some, Ok, Err, sym, refl, ap, ◌∙◌, subst, arith, length-append, length-drop}
+use Rattle.std.proofs.lemmas.List.{drop-drop}
 use Rattle.std.proofs.lemmas.Bool.{cond-true, le-leb}
 use Rattle.markup.specs.declared.fault.Fault.{Fault}
 use Rattle.markup.specs.declared.fault.Error.{Error}
 use Rattle.markup.specs.Faults.{and_then}
 use Rattle.lexer.specs.Item.{Item, spelling}
 use Rattle.lexer.specs.Lex.{item_at, lex}
-use Rattle.lexer.proofs.Fronts.{ItemFront}
 use Rattle.lexer.proofs.Meaning.{item_of, fault_of, lexed_front}
 use Rattle.book.specs.Reading.{State, initial, step, run, finished, short_enough, read_book}
 use Rattle.book.specs.Views.{Fails}

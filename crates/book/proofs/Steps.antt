@@ -1,5 +1,5 @@
 -- What the reader's methods make of its state.
-use Rattle.std.proofs.Common.{◌≡◌, ℕ, ◌+◌, ◌-◌, ◌<◌, ◌≤◌, true, false, eqb, List, [], ◌∷◌, ◌++◌, map, reverse, length, get_or, take, set, Ok, Err, vec_items, vec_len, Result, sym, refl, ap, ◌∙◌, subst, arith, Bor}
+use Rattle.std.proofs.Common.{◌≡◌, ℕ, ◌+◌, ◌-◌, ◌<◌, true, false, eqb, List, [], ◌∷◌, ◌++◌, map, reverse, length, get_or, take, set, Ok, Err, vec_items, vec_len, Result, sym, refl, ap, ◌∙◌, subst, arith, Bor}
 use Rattle.std.specs.List.{AllByRecursion as Every}
 use Rattle.std.specs.Str.{bytes_eq}
 use Rattle.std.proofs.lemmas.List.{length-map, length-reverse, reverse-append, take_all, take_more}

@@ -1,5 +1,5 @@
 -- What is granted is a lawful tree.
-use Rattle.std.proofs.Common.{◌≡◌, ℕ, zero, suc, ◌+◌, ◌<◌, ◌≤◌, Bool, cond, ◌⊎◌, List, [], ◌∷◌, ◌++◌, map, length, get_or, sym, refl, ap, ◌∙◌, subst, inl, inr, ⊎_elim, arith}
+use Rattle.std.proofs.Common.{◌≡◌, ℕ, zero, suc, ◌+◌, ◌<◌, ◌≤◌, Bool, cond, List, [], ◌∷◌, map, length, get_or, sym, refl, ap, ◌∙◌, subst, inl, inr, ⊎_elim, arith}
 use mathlib.Core.Path.{fun_ext}
 use lib.ListN.{length-map, get_or-map}
 use Rattle.std.specs.List.{AllByRecursion as Every}
@@ -7,7 +7,7 @@ use Rattle.std.proofs.ByRecursion.{All-append, All-get_or}
 use Rattle.std.proofs.lemmas.Bool.{cases_order}
 use Rattle.markup.specs.Name.{LawfulName}
 use Rattle.tree.specs.Region.{Region, Contains, contains, count_below, BookOf, LawfulBook, at}
-use Rattle.tree.specs.Tree.{Tree, region_of, LawfulTree}
+use Rattle.tree.specs.Tree.{region_of, LawfulTree}
 use Rattle.lexer.specs.Item.{Item.start, Item.end, Item.empty, spelling}
 use Rattle.book.specs.Document.{Content, Content.none, Content.byte, Content.bare, Content.full, spell, Lawful, Node, nodes_at, Document, intern, numbered, named, indexed, Shallow, Within}
 use Rattle.book.specs.Promises.{TreesAreLawful}

@@ -1,5 +1,5 @@
 -- Reading a book text item by item: the tree so far, and what each item makes of it.
-use Rattle.std.specs.Prelude.{◌≡◌, ℕ, zero, suc, ◌+◌, ◌<◌, Bool, cond, not, ◌&&◌, ◌||◌, List, [], ◌∷◌, ◌++◌, length, drop, Ok, Err, Result, ◌==◌, ◌≢◌, nat_le, slice_index_or, slice_set}
+use Rattle.std.specs.Prelude.{ℕ, zero, suc, ◌+◌, ◌<◌, cond, not, ◌&&◌, ◌||◌, List, [], ◌∷◌, ◌++◌, length, drop, Ok, Err, Result, ◌==◌, ◌≢◌, nat_le, slice_index_or, slice_set}
 use Rattle.std.specs.List.{prefix_len, AllByRecursion as Every}
 use Rattle.std.specs.Str.{bytes_eq}
 use Rattle.markup.specs.declared.fault.Refusal.TheVariants.{BookTooLong, Stray, WrongEndTag, Unclosed, TopElement, TooDeep, TooMany}

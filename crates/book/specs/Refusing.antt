@@ -1,5 +1,5 @@
 -- When and where a book text is refused: items are read in order, and the first refused one decides.
-use Rattle.std.specs.Prelude.{◌≡◌, ℕ, zero, suc, ◌+◌, ◌<◌, ◌≤◌, true, false, ◌⊎◌, List, [], ◌∷◌, ◌++◌, length, drop}
+use Rattle.std.specs.Prelude.{◌≡◌, ℕ, suc, ◌<◌, ◌≤◌, true, false, ◌⊎◌, List, [], ◌∷◌, ◌++◌, length, drop}
 use Rattle.markup.specs.declared.fault.Fault.{Fault}
 use Rattle.markup.specs.declared.fault.Refusal.TheVariants.{BookTooLong, Stray, WrongEndTag, Unclosed, TopElement, TooDeep, TooMany}
 use Rattle.markup.specs.Faults.{fault}

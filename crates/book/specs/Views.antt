@@ -1,5 +1,5 @@
 -- What the reader's values stand for.
-use Rattle.std.specs.Prelude.{◌≡◌, ℕ, List, map, reverse, Ok, Err, vec_items, Result}
+use Rattle.std.specs.Prelude.{◌≡◌, map, reverse, Ok, Err, vec_items, Result}
 use Rattle.markup.specs.declared.fault.Fault.{Fault}
 use Rattle.markup.specs.declared.fault.Error.{Error}
 use Rattle.markup.specs.declared.fault.Error.TheVariants.{Refused, Memory}

@@ -1,5 +1,5 @@
 -- What stands in the bytes of a sheet that was made of elements and names.
-use Rattle.std.proofs.Common.{◌≡◌, ℕ, ◌+◌, ◌-◌, ◌*◌, ◌<◌, ◌≤◌, List, [], ◌++◌, length, get_or, take, drop, sym, refl, ap, ◌∙◌, arith}
+use Rattle.std.proofs.Common.{◌≡◌, ℕ, ◌+◌, ◌*◌, ◌<◌, ◌≤◌, List, [], ◌++◌, length, get_or, take, drop, sym, refl, ap, ◌∙◌, arith}
 use Rattle.std.proofs.lemmas.List.{append_assoc, drop-drop, drop_at, drop-append-le, take_at, at_drop_more}
 use Rattle.tree.specs.declared.element.Element.{Element}
 use Rattle.layout.specs.declared.record.NameRecord.{NameRecord}

@@ -1,13 +1,13 @@
 -- The lexer's definition means what the subject says: items exactly where the text begins with them, refusals exactly where a tag goes wrong.
-use Rattle.std.proofs.Common.{◌≡◌, ℕ, suc, ◌+◌, ◌<◌, ◌≤◌, Bool, true, false, cond, not, eqb, ◌⊎◌, List, [], ◌∷◌, ◌++◌, length, get_or, take, drop, Some, None, Ok, Err, Option, Result, sym, refl, ap, ◌∙◌, subst, inl, inr, ⊎_elim, true≢false, append-nil, arith, take-append-drop, length-take}
+use Rattle.std.proofs.Common.{◌≡◌, ℕ, suc, ◌+◌, Bool, true, false, cond, not, eqb, List, [], ◌∷◌, ◌++◌, length, take, drop, Some, None, Ok, Err, Option, Result, sym, refl, ap, ◌∙◌, subst, ⊎_elim, true≢false, append-nil, arith, take-append-drop, length-take}
 use lib.Seq.{take-append_seam}
 use Rattle.std.specs.List.{prefix_len, AllByRecursion as Every}
 use Rattle.std.proofs.lemmas.List.Sums.{prefix_len-le-length}
-use Rattle.std.proofs.lemmas.Bool.{cases_Bool, cond-true, cond-false, eqb-true, not_from_true}
+use Rattle.std.proofs.lemmas.Bool.{cases_Bool, cond-false, eqb-true}
 use Rattle.markup.specs.declared.fault.Fault.{Fault}
 use Rattle.markup.specs.Faults.{and_then}
 use Rattle.markup.proofs.Granted.{Granted}
-use Rattle.markup.proofs.Leading.{leading_append, leading_stop, leading_all, all_leading}
+use Rattle.markup.proofs.Leading.{leading_stop, leading_all, all_leading}
 use Rattle.lexer.specs.Bytes.{text_byte}
 use Rattle.lexer.specs.Item.{Item, Item.start, Item.end, Item.empty, Item.text, Tag, spelling}
 use Rattle.lexer.specs.Lex.{item_at, lex}

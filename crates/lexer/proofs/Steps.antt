@@ -1,5 +1,5 @@
 -- One step of the lexer over a text.
-use Rattle.std.proofs.Common.{◌≡◌, ℕ, ◌+◌, ◌<◌, ◌≤◌, List, [], ◌∷◌, ◌++◌, length, take, drop, Some, None, Ok, Err, sym, refl, ap, ◌∙◌, subst, append_assoc, arith, length-drop}
+use Rattle.std.proofs.Common.{◌≡◌, ℕ, ◌+◌, ◌<◌, ◌≤◌, List, [], ◌∷◌, ◌++◌, length, take, drop, Some, None, Ok, Err, sym, refl, ap, ◌∙◌, append_assoc, arith, length-drop}
 use lib.Seq.{take-append_seam}
 use Rattle.std.proofs.lemmas.List.{drop-drop, drop_all}
 use Rattle.markup.specs.declared.fault.Fault.{Fault}
@@ -7,8 +7,8 @@ use Rattle.markup.specs.Faults.{and_then}
 use Rattle.lexer.specs.declared.token.Token.{Token}
 use Rattle.lexer.specs.declared.token.Token.TheVariants.{Start, End, Empty, Text}
 use Rattle.lexer.specs.Item.{Item, spelling}
-use Rattle.lexer.specs.Lex.{item_at, lex, behind}
-use Rattle.lexer.specs.Token.{item_of, whole_of, Written, Cut, NameCut, HandsOut, Finds}
+use Rattle.lexer.specs.Lex.{item_at, lex}
+use Rattle.lexer.specs.Token.{item_of, whole_of, Cut, NameCut, HandsOut, Finds}
 use Rattle.lexer.proofs.Fronts.{ItemFront, item_front, front_taken, front_within}
 
 -- before the end of the text the item there decides

@@ -1,5 +1,5 @@
 -- A tag is read as it is written, and nothing else is read as a tag.
-use Rattle.std.proofs.Common.{◌≡◌, ℕ, zero, suc, ◌+◌, ◌<◌, ◌≤◌, Bool, true, false, cond, eqb, leb, ◌⊎◌, List, [], ◌∷◌, ◌++◌, length, get_or, take, drop, Ok, Err, sym, refl, ap, ◌∙◌, subst, inl, inr, ⊎_elim, true≢false, append_assoc, append-nil, arith, get_or-append-add}
+use Rattle.std.proofs.Common.{◌≡◌, ℕ, ◌+◌, ◌≤◌, false, eqb, leb, List, [], ◌∷◌, ◌++◌, length, get_or, take, drop, Ok, sym, refl, ap, ◌∙◌, true≢false, append_assoc, arith, get_or-append-add}
 use lib.ListN.{get_or-append}
 use lib.Seq.{take-append_seam, get_or-append_seam}
 use Rattle.std.specs.List.{prefix_len}

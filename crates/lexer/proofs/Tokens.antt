@@ -1,10 +1,10 @@
 -- The tokens that the tag functions make are those of the definition.
-use Rattle.std.proofs.Common.{◌≡◌, ℕ, ◌+◌, ◌<◌, eqb, List, [], ◌∷◌, length, get_or, take, drop, Ok, Err, sym, refl, ap, ◌∙◌, arith}
+use Rattle.std.proofs.Common.{◌≡◌, ℕ, ◌+◌, ◌<◌, eqb, List, [], ◌∷◌, get_or, take, drop, Ok, sym, ap, ◌∙◌, arith}
 use Rattle.std.proofs.lemmas.Bool.{cond-true, cond-false, eq-eqb, ne_eqb}
 use Rattle.markup.specs.Faults.{and_then}
 use Rattle.lexer.specs.declared.token.Tag.{Tag}
-use Rattle.lexer.specs.declared.token.Token.TheVariants.{Start, End, Empty, Text}
-use Rattle.lexer.specs.Item.{Item, Item.start, Item.end, Item.empty, spelling}
+use Rattle.lexer.specs.declared.token.Token.TheVariants.{Start, End, Empty}
+use Rattle.lexer.specs.Item.{Item.start, Item.end, Item.empty, spelling}
 use Rattle.lexer.specs.Lex.{name_at, end_tail, end_tag, start_tail, start_tag, item_at}
 use Rattle.lexer.specs.Token.{Finds}
 use Rattle.lexer.proofs.Fronts.{start_front, end_front, empty_front}

@@ -1,8 +1,6 @@
 -- The items that a book text is a row of, and how they are written.
-use Rattle.std.specs.Prelude.{◌≡◌, ℕ, ◌≤◌, true, List, [], ◌∷◌, ◌++◌, length}
-use Rattle.std.specs.List.{AllByRecursion as Every}
+use Rattle.std.specs.Prelude.{ℕ, List, [], ◌∷◌, ◌++◌}
 use Rattle.markup.specs.Name.{LawfulName}
-use Rattle.lexer.specs.Bytes.{text_byte}
 
 -- a start, end or empty tag with its name, or a text run with its bytes
 pub data Item : Type 0 where

@@ -1,8 +1,8 @@
 -- What a view tells of the elements and names of its sheet.
-use Rattle.std.proofs.Common.{◌≡◌, ℕ, ◌<◌, ◌≤◌, true, false, cond, ltb, List, [], get_or, is_some, Some, None, Option, sym, refl, ap, ◌∙◌, ⊎_elim, arith, MutBor}
+use Rattle.std.proofs.Common.{◌≡◌, ℕ, ◌<◌, true, List, [], get_or, is_some, Some, None, Option, sym, refl, ap, ◌∙◌, arith, Bor}
 use Rattle.std.proofs.lemmas.Bool.{cond-true, lt-ltb}
 use Rattle.tree.specs.declared.element.Element.{Element}
-use Rattle.layout.specs.Layout.{element_count, name_count, element_at, name_text, elements_of, names_of}
+use Rattle.layout.specs.Layout.{element_count, name_count, element_at, elements_of, names_of}
 use Rattle.layout.specs.Lawful.{LawfulSheet}
 use Rattle.layout.specs.Encoding.{blank}
 use Rattle.layout.proofs.Unique.{get_or-elements_of, get_or-names_of}
@@ -21,12 +21,12 @@ module _ (bs : List ℕ) (l : LawfulSheet bs) (k : ℕ) (e : Element) (h : k < e
   name_known : e.name < name_count bs
   name_known = let n = (l.elements k h).numbers.named in omega (arith, ap (λ (x : Element). x.name) element-at)
 
-  pub name_found : (r : Option (MutBor (List ℕ))) → NameIn bs e.name r → is_some r ≡ true
+  pub name_found : (r : Option (Bor (List ℕ))) → NameIn bs e.name r → is_some r ≡ true
   name_found (Some text) n = refl
   name_found None n = absurd (omega (arith, name_known))
 
   -- its line
-  pub line_of : (text : MutBor (List ℕ)) → NameIn bs e.name (Some text)
+  pub line_of : (text : Bor (List ℕ)) → NameIn bs e.name (Some text)
       → element_line e text.now ≡ element_line (get_or (elements_of bs) k blank) (get_or (names_of bs) (get_or (elements_of bs) k blank).name [])
   line_of text n =
       ap (element_line e) (n.1 ∙ sym (get_or-names_of bs e.name n.0)) ∙ ap (λ (x : Element). element_line x (get_or (names_of bs) x.name [])) element_inside

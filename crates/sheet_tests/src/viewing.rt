@@ -6,7 +6,7 @@ use sheet::SheetView;
 fn shows_the_smallest_sheet_first(rt: HostRuntime) {
     let view = SheetView::new();
     assert!(rt; view.element_count() == 1 && view.name_count() == 1);
-    assert_eq!(rt; view.name(0), Some(b"a"));
+    assert_eq!(rt; view.name(0), Some(b"a".as_slice()));
     assert!(rt; view.next(0) == 1 && view.first(0) == 0);
 }
 
@@ -24,9 +24,9 @@ fn shows_the_book(rt: HostRuntime) {
     assert!(rt;
         view.first(0) == 0 && view.first(1) == 1 && view.first(2) == 2 && view.first(3) == 4
     );
-    assert_eq!(rt; view.name(0), Some(b"b"));
-    assert_eq!(rt; view.name(1), Some(b"p"));
-    assert_eq!(rt; view.name(2), Some(b"n"));
+    assert_eq!(rt; view.name(0), Some(b"b".as_slice()));
+    assert_eq!(rt; view.name(1), Some(b"p".as_slice()));
+    assert_eq!(rt; view.name(2), Some(b"n".as_slice()));
     assert_eq!(rt; view.name(3), None);
     assert_eq!(rt; view.find(b"n"), Some(2));
     assert_eq!(rt; view.find(b"pn"), None);

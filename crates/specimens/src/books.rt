@@ -23,7 +23,9 @@ fn check_outline(rt: &impl Abort, heap: Global, text: &[u8], lines: &str) -> Res
 
 fn check_all(rt: &impl Abort, heap: Global, table: &[Specimen]) -> Result<(), Fail> {
     for s in table.iter() {
-        check_outline(rt, heap, s.text.as_bytes(), s.lines).note(s.text)?;
+        let text = s.text;
+        let printed = outline::outline(heap, text.as_bytes())?;
+        assert_eq!(rt; printed.as_slice(), s.lines.as_bytes(), "of {text}");
     }
     Ok(())
 }

@@ -1,6 +1,4 @@
-use Rattle.std.proofs.Common.{◌≡◌, ◌+◌, not, drop}
-use Rattle.std.specs.List.{prefix_len}
-use Rattle.std.specs.Str.{bytes_eq}
+use Rattle.std.proofs.Common.{◌≡◌, ◌+◌, drop}
 use Rattle.book.specs.Parts.{bytes_of}
 use Rattle.book.specs.Document.{position}
 use Rattle.book.proofs.names.position_of.Given as goal

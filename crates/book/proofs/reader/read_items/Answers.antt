@@ -1,10 +1,9 @@
-use Rattle.std.proofs.Common.{◌≡◌, ℕ, ◌+◌, ◌-◌, ◌<◌, ◌≤◌, List, [], length, drop, Some, None, Ok, Err, Option, Result, sym, refl, ap, ◌∙◌, subst, arith}
+use Rattle.std.proofs.Common.{◌≡◌, ℕ, ◌≤◌, List, length, drop, Some, None, Ok, Err, Option, Result, sym, ap, ◌∙◌, subst, arith}
 use Rattle.std.proofs.lemmas.Result.{err_from_is_err_and}
 use Rattle.markup.specs.declared.fault.Fault.{Fault}
 use Rattle.markup.specs.declared.fault.Error.TheVariants.{Refused}
 use Rattle.markup.specs.Faults.{and_then}
 use Rattle.lexer.specs.declared.token.Token.{Token}
-use Rattle.lexer.specs.Item.{spelling}
 use Rattle.lexer.specs.Lex.{lex, behind}
 use Rattle.lexer.specs.Token.{item_of, answered, Parts}
 use Rattle.lexer.proofs.Meaning.{lexing_is_exact}

@@ -1,4 +1,4 @@
-use Rattle.std.proofs.Common.{◌≡◌, ◌+◌, ◌<◌, length, get_or, sym, ap, ◌∙◌, arith}
+use Rattle.std.proofs.Common.{◌≡◌, ◌+◌, length, get_or, sym, ap, ◌∙◌, arith}
 use Rattle.lexer.proofs.Fronts.{byte-within}
 use Rattle.lexer.proofs.Tokens.{start_token, empty_token}
 use Rattle.lexer.proofs.lexer.start_tag.Goals as goal

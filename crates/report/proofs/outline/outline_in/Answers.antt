@@ -1,4 +1,4 @@
-use Rattle.std.proofs.Common.{◌≡◌, ℕ, List, IfOk, vec_items, sym, ap, ◌∙◌, subst, arith}
+use Rattle.std.proofs.Common.{◌≡◌, IfOk, vec_items, sym, ap, ◌∙◌, subst}
 use Rattle.tree.specs.Tree.{Tree}
 use Rattle.layout.specs.Layout.{tree_of}
 use Rattle.layout.specs.Lawful.{LawfulSheet}
@@ -6,8 +6,8 @@ use Rattle.report.specs.Outline.{tree_lines}
 use Rattle.report.proofs.Outlining.{granted_outline, refused_outline, sheet_within, sheet_cut, never_short}
 use Rattle.report.proofs.outline.outline_in.Goals as goal
 
-pub slice-bounds-sheet_lines-end : goal.slice-bounds-sheet_lines-end
-slice-bounds-sheet_lines-end c = sheet_within _ _ _ _ c.in-Ok.ensures
+pub slice_bounds-sheet_lines-end : goal.slice_bounds-sheet_lines-end
+slice_bounds-sheet_lines-end c = sheet_within _ _ _ _ c.in-Ok.ensures
 
 pub sheet_lines-requires : goal.sheet_lines-requires
 sheet_lines-requires c =

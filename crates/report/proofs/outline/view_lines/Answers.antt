@@ -1,4 +1,4 @@
-use Rattle.std.proofs.Common.{◌≡◌, ℕ, ◌<◌, List, ◌++◌, vec_items, sym, ap, ◌∙◌, subst, arith}
+use Rattle.std.proofs.Common.{◌<◌, ◌++◌, vec_items, sym, ap, ◌∙◌, subst, arith}
 use Rattle.layout.specs.Layout.{element_count, elements_of, names_of}
 use Rattle.layout.specs.Encoding.{blank}
 use Rattle.layout.proofs.Unique.{length-elements_of}

@@ -1,4 +1,4 @@
-use Rattle.std.proofs.Common.{◌≢◌, ap, ◌∙◌, add-one, arith, lit<, rules, below_more}
+use Rattle.std.proofs.Common.{◌≢◌, ap, ◌∙◌, add-one, arith, lit<, below_more}
 use Rattle.layout.specs.declared.record.NameRecord.{NameRecord}
 use Rattle.std.proofs.lemmas.List.{length-set, get_or-set_same, get_or-set_other}
 use Rattle.sheet.specs.Links.{key_of}

@@ -1,4 +1,4 @@
-use Rattle.std.proofs.Common.{refl, subst, arith, lit<, rules}
+use Rattle.std.proofs.Common.{refl, subst, arith, lit<}
 use Rattle.markup.specs.Name.{LawfulName}
 use Rattle.sheet.proofs.Naming.{right_name}
 use Rattle.sheet.proofs.Sizes.{sized_length}

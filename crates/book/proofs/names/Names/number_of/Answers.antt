@@ -1,4 +1,4 @@
-use Rattle.std.proofs.Common.{◌≡◌, ℕ, ◌-◌, ◌<◌, List, length, vec_items, ap, ◌∙◌, arith, Bor}
+use Rattle.std.proofs.Common.{ℕ, List, vec_items, ap, ◌∙◌, arith, Bor}
 use Rattle.std.specs.Str.{bytes_eq}
 use Rattle.book.proofs.Search.{found_at}
 use Rattle.book.proofs.names.Names.number_of.Goals as goal

@@ -1,11 +1,10 @@
-use Rattle.std.proofs.Common.{◌≡◌, ◌+◌, [], ◌∷◌, length, Ok, Err, vec_items, vec_len, sym, refl, ap, ◌∙◌, subst}
+use Rattle.std.proofs.Common.{◌≡◌, [], ◌∷◌, Ok, vec_items, sym, refl, ap, ◌∙◌, subst}
 use Rattle.std.proofs.lemmas.Slice.{pushed}
 use Rattle.std.proofs.lemmas.Result.{err_from_is_err_and}
 use Rattle.markup.specs.Faults.{and_then}
 use Rattle.book.specs.Reading.{enter, entered, leaf, ended}
 use Rattle.book.specs.Parts.{bytes_of}
 use Rattle.book.specs.Views.{state_of, Fails}
-use Rattle.tree.specs.declared.element.Element.{Element}
 use Rattle.book.proofs.Steps.{fails_then, entered_is, leaf_is}
 use Rattle.book.proofs.reader.Reader.empty.Goals as goal
 use Rattle.book.proofs.reader.Reader.empty.Goals.{After-admit}

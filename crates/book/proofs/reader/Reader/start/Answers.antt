@@ -1,11 +1,10 @@
-use Rattle.std.proofs.Common.{◌≡◌, [], ◌∷◌, Ok, Err, vec_items, vec_len, sym, refl, ap, ◌∙◌, subst}
+use Rattle.std.proofs.Common.{◌≡◌, [], ◌∷◌, Ok, vec_items, sym, refl, ap, ◌∙◌, subst}
 use Rattle.std.proofs.lemmas.Slice.{pushed}
 use Rattle.std.proofs.lemmas.Result.{err_from_is_err_and}
 use Rattle.markup.specs.Faults.{and_then}
 use Rattle.book.specs.Reading.{enter, entered, opened}
 use Rattle.book.specs.Parts.{bytes_of}
 use Rattle.book.specs.Views.{state_of, Fails}
-use Rattle.tree.specs.declared.element.Element.{Element}
 use Rattle.book.specs.declared.reader.Open.{Open}
 use Rattle.book.proofs.Steps.{fails_then, elements-count, entered_is, opened_is}
 use Rattle.book.proofs.reader.Reader.start.Goals as goal
