@@ -2,14 +2,14 @@
 # How much CPU time `outline` takes to read and print large books, next to `xmllint --noout --stream` on the same files.
 # Prints the table of docs/SPEED.md. Not part of the gate: nothing rests on the numbers.
 #
-#   bench/outline.sh                    measures target/bin/outline, and builds it first if it is missing
+#   bench/outline.sh                    measures crates/outline/out/outline, and builds it first if it is missing
 #   OUTLINE=/tmp/outline bench/outline.sh    measures another build
 set -euo pipefail
 cd "$(dirname "$0")/.."
 
-outline=${OUTLINE:-target/bin/outline}
+outline=${OUTLINE:-crates/outline/out/outline}
 if [ -z "${OUTLINE:-}" ] && [ ! -x "$outline" ]; then
-    rt check outline
+    (cd crates/outline && rt run </dev/null >/dev/null)
 fi
 if ! command -v xmllint >/dev/null; then
     apt-get update -q >&2

@@ -1,6 +1,6 @@
 -- One step of the lexer over a text.
 use Rattle.std.proofs.Common.{◌≡◌, ℕ, ◌+◌, ◌<◌, ◌≤◌, List, [], ◌∷◌, ◌++◌, length, take, drop, Some, None, Ok, Err, sym, refl, ap, ◌∙◌, append_assoc, arith, length-drop}
-use lib.Seq.{take-append_seam}
+use Rattle.std.proofs.Math.Seq.{take-append_seam}
 use Rattle.std.proofs.lemmas.List.{drop-drop, drop_all}
 use Rattle.markup.specs.declared.fault.Fault.{Fault}
 use Rattle.markup.specs.Faults.{and_then}

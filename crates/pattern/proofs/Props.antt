@@ -1,10 +1,10 @@
 -- A twig's lawfulness is a proposition, so that it can be taken out of the type.
 use Rattle.std.proofs.Common.{◌≡◌, ℕ, List, [], ◌∷◌, sym, refl, subst}
 use mathlib.Core.HLevel.{hedberg, Unit-prop, ×_prop}
-use mathlib.Core.Logic.{∥∥₁_elim}
-use mathlib.Core.Bool.{Bool-set}
-use native.Mathlib.Nat.{ℕ_set}
-use native.Mathlib.Bridge.{le_prop}
+use Rattle.std.proofs.Math.Logic.{∥∥₁_elim}
+use Rattle.std.proofs.Math.Bool.{Bool-set}
+use Rattle.std.proofs.Math.Nat.{ℕ_set}
+use Rattle.std.proofs.Math.Bridge.{le_prop}
 use Rattle.std.specs.List.{AllByRecursion as Every}
 use Rattle.markup.specs.Name.{LawfulName}
 use Rattle.pattern.specs.declared.node.Edge.{Edge}

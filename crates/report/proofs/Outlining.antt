@@ -1,7 +1,7 @@
 -- The lines of a tree, one element after the other.
 use Rattle.std.proofs.Common.{◌≡◌, ℕ, ◌+◌, ◌-◌, ◌<◌, ◌≤◌, List, [], ◌++◌, map, length, get_or, take, drop, IfOk, Ok, Err, Result, sym, ap, ◌∙◌, inl, inr, append_assoc, append-nil, arith, length-append}
-use lib.ListN.{length-map}
-use lib.Seq.{take-append_seam}
+use Rattle.std.proofs.Math.ListN.{length-map}
+use Rattle.std.proofs.Math.Seq.{take-append_seam}
 use Rattle.std.proofs.lemmas.List.{at_drop_more, at_drop_all}
 use Rattle.markup.specs.declared.fault.Error.{Error}
 use Rattle.markup.specs.declared.fault.Error.TheVariants.{Refused, Memory}

@@ -1,6 +1,6 @@
 -- That bytes are a lawful sheet has at most one proof, so the fact comes out of its truncation.
 use Rattle.std.proofs.Common.{◌≡◌, ℕ, zero, suc, ◌+◌, ◌<◌, ◌≤◌, true, List, [], ◌∷◌, get_or}
-use mathlib.Core.Logic.{∥∥₁_elim}
+use Rattle.std.proofs.Math.Logic.{∥∥₁_elim}
 use denote.Struct.Props.{props}
 use Rattle.std.specs.List.{AllByRecursion as Every}
 use Rattle.markup.specs.Name.{name_first, name_byte, LawfulName}

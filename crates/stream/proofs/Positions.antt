@@ -1,6 +1,6 @@
 -- A change at one position, and the front of a list.
 use Rattle.std.proofs.Common.{◌≡◌, ℕ, Bool, true, false, cond, eqb, List, [], ◌∷◌, Some, None, sym, refl, ap, ◌∙◌, eq-eqb, eqb-true}
-use mathlib.Core.Path.{fun_ext}
+use Rattle.std.proofs.Math.Path.{fun_ext}
 use Rattle.std.proofs.lemmas.Bool.{cond_both, cond-true}
 use Rattle.stream.specs.declared.region.Region.{Region}
 use Rattle.stream.specs.Lists.{update, first, rest}
