@@ -1,5 +1,5 @@
 -- What the reader's values stand for.
-use Rattle.std.specs.Prelude.{◌≡◌, map, reverse, Ok, Err, vec_items, Result}
+use Rattle.std.specs.Prelude.{◌≡◌, map, reverse, Ok, Err, Result}
 use Rattle.markup.specs.declared.fault.Fault.{Fault}
 use Rattle.markup.specs.declared.fault.Error.{Error}
 use Rattle.markup.specs.declared.fault.Error.TheVariants.{Refused, Memory}
@@ -25,10 +25,10 @@ open_of o = record { number = o.number; element = o.element; name = o.name.now }
 
 abbrev pub state_of : Reader → State
 state_of r = record {
-  elements = vec_items r.elements;
-  names = bytes_of (vec_items r.names.list);
-  opens = map open_of (reverse (vec_items r.opens));
+  elements = r.elements.items;
+  names = bytes_of r.names.list.items;
+  opens = map open_of (reverse r.opens.items);
 }
 
 abbrev pub tree_of : Book → Tree
-tree_of b = record { elements = vec_items b.elements; names = bytes_of (vec_items b.names) }
+tree_of b = record { elements = b.elements.items; names = bytes_of b.names.items }

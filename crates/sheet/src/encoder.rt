@@ -1,5 +1,5 @@
 // Writes the sheet of elements and names.
-ghost use Rattle.std.specs.Prelude.{◌≡◌, ℕ, ◌+◌, ◌*◌, ◌<◌, ◌≤◌, [], map, length, get_or, slice_index, slice_index_or};
+ghost use Rattle.std.specs.Prelude.{◌≡◌, ℕ, ◌+◌, ◌*◌, ◌<◌, ◌≤◌, [], map, length, slice_index, slice_index_or};
 ghost use Rattle.layout.specs.Encoding.{blank, seek, element_table, name_table, header_bytes, joint};
 ghost use Rattle.sheet.specs.Writing.{numbers_fit, names_fit, fields_fit, encodes, written, Puts};
 
@@ -94,7 +94,7 @@ fn put_header(out: &mut [u8], elements: u32, names: u32, bytes: u32)
 // The element table, in one pass from the back that knows the nearest element of each name. Answers each name's first element.
 fn put_elements(out: &mut [u8], elements: &[Element]) -> [u32; MOST_NAMES]
     requires few { length elements.now ≤ 65535 }
-    requires named { (k : ℕ) → k < length elements.now → (get_or elements.now k blank).name < 1024 }
+    requires named { (k : ℕ) → k < length elements.now → (slice_index_or elements.now k blank).name < 1024 }
     requires room { 32 + 16 * length elements.now ≤ length out.old }
     ensures puts { Puts (element_table elements.now 0) out.old 32 out.new }
     ensures first { (n : ℕ) → n < 1024 → slice_index result n ≡ seek n elements.now 0 }
