@@ -7,14 +7,13 @@ that Rattle makes for goals and steps, keep their spelling. Run once, at the top
 """
 import glob
 import re
-import subprocess
 import sys
 
 TOKEN = re.compile(r"[^\s(){}\[\];,.:\"`|]+")
 DECLARED = re.compile(r"^\s*(?:(?:pub|abbrev|unfoldable|private|opaque)\s+)*(?:(?:record|data)\s+)?([^\s:(){}\[\];,.\"`|]+)\s*(?:[({][^=]*)?:\s")
-# names of the library that a dash may join
-LIBRARY = set("""length take drop append nil cons map filter get_or slice_index slice_index_or prefix_len eqb eq ne lt le add sub mul suc zero min max
-cond true false not and or sum count All Contains update find concat reverse empty some none ok err items now""".split())
+# lemmas named after a function of a function, which a dash joins
+JOINED = re.compile(r"(length|get_or)-.*|drop-(elements|names|joint|drop)|(count|none|named|numbered)-append|map-map|update-update|read-le(16|32)"
+                    r"|update-narrowed|narrowed-update|rising-map")
 # names that would fall together, or that read badly when turned by rule
 BY_HAND = {
     "element-in": "element_inside",
@@ -27,23 +26,19 @@ BY_HAND = {
     "getD-namesOf": "get_or-names_of",
     "getD-vertices": "get_or-vertices",
     "All-from_get_or": "All-from_get_or",
-    "every-text-has-one-answer": "every_text_has_one_answer",
-    "opening-has-one-answer": "opening_has_one_answer",
-    "fit-not-unfit": "fit_not_unfit",
-    "first-wrong-one": "first_wrong_one",
-    "all-from-leading": "all_from_leading",
-    "inner-dot-slash": "inner_dot_slash",
-    "past-halts-too": "past_halts_too",
-    "element-or-right": "element_or_right",
-    "header-or-right": "header_or_right",
+    "blank-byte": "blank_byte_lem",
+    "element-at": "element_at_lem",
+    "first-tree": "first_tree_lem",
+    "name-at": "name_at_lem",
+    "name-first": "name_first_lem",
     "length-joint-bounds": "length_joint_bounds",
     "length-joint-halves": "length_joint_halves",
     "length-joint-more": "length_joint_more",
     "length-joint-take": "length_joint_take",
     "length-or-sized": "length_or_sized",
 }
-# the library's recursive form of its word `All`, which the older toolchain called `All` itself
-RECURSIVE = ("AllByRecursion as All", "AllByRecursion as Every")
+# the library's recursive form of its word `All`, under the word's own name: here it is `Every`
+RECURSIVE = "AllByRecursion as All"
 
 
 def files(kind):
@@ -66,26 +61,35 @@ def declared(paths):
     return names
 
 
+def fields_of_records(paths):
+    fields, inside = set(), None
+    for path in paths:
+        for line in open(path, encoding="utf-8"):
+            depth = len(line) - len(line.lstrip())
+            if re.match(r"\s*(pub )?record [^=]*where\s*$", line):
+                inside = depth
+            elif inside is not None and line.strip() and depth <= inside:
+                inside = None
+            elif inside is not None and (m := DECLARED.match(line)):
+                fields.add(m.group(1))
+    return fields
+
+
 def snake(word):
-    word = re.sub(r"([a-z0-9])([A-Z])(?=[a-z0-9]|$)", lambda m: m.group(1) + "_" + m.group(2).lower(), word)
-    return word
+    return re.sub(r"([a-z0-9])([A-Z])(?=[a-z0-9]|$)", lambda m: m.group(1) + "_" + m.group(2).lower(), word)
 
 
 def camel(name):
     return "".join(w[:1].upper() + w[1:] for w in re.split(r"[-_]", name))
 
 
-def turned(name, words):
+def turned(name):
     if name in BY_HAND:
         return BY_HAND[name]
     if name[0].isupper():
         return camel(name) if re.search(r"[-_][a-z]", name) else name
-    parts = [p if p[:1].isupper() else snake(p) for p in name.split("-")]
-    out = parts[0]
-    for before, after in zip(parts, parts[1:]):
-        join = "-" if before in words and after in words else "_"
-        out += join + after
-    return out
+    name = "-".join(p if p[:1].isupper() else snake(p) for p in name.split("-"))
+    return name if JOINED.fullmatch(name) else name.replace("-", "_")
 
 
 def main():
@@ -93,11 +97,10 @@ def main():
     specs, lemmas = files("specs"), [p for p in files("proofs") if not made_by_rattle(p)]
     answers = set(declared([p for p in files("proofs") if made_by_rattle(p)]))
     in_specs, in_lemmas = declared(specs), declared(lemmas)
-    words = LIBRARY | {snake(n) for n in in_specs if not "-" in n}
     names = set(in_specs) | set(in_lemmas)
     table = {}
     for name in sorted(names):
-        new = turned(name, words)
+        new = turned(name)
         if new != name and name not in answers:
             table[name] = new
     taken = {}
@@ -110,7 +113,8 @@ def main():
         for old, new in table.items():
             print(old, "->", new)
         return
-    fields = {n for n in table if not "-" in n}
+    # what stands behind a dot is a field; a name with a dash there may also be one that Rattle makes
+    fields = {n for n in table if "-" not in n} | fields_of_records(specs + lemmas)
     paths = specs + files("proofs") + sorted(glob.glob("crates/*/src/**/*.rt", recursive=True))
     for path in paths:
         text = open(path, encoding="utf-8").read()
@@ -121,9 +125,8 @@ def main():
             return table.get(m.group(0), m.group(0))
 
         new = TOKEN.sub(one, text)
-        if RECURSIVE[0] in new:
-            new = re.sub(r"(?<![\w.'-])All(?![\w'-])", "Every", new.replace(RECURSIVE[0], "AllByRecursion as Each"))
-            new = new.replace("AllByRecursion as Each", RECURSIVE[1])
+        if RECURSIVE in new:
+            new = re.sub(r"(?<![\w.'-])All(?![\w'-])", "Every", new)
         if new != text:
             open(path, "w", encoding="utf-8").write(new)
     print(len(table), "names respelled")

@@ -14,7 +14,7 @@ use Rattle.book.specs.Promises.{GrantedExactly, EveryTextHasOneAnswer}
 use Rattle.book.proofs.Complete.{complete}
 use Rattle.book.proofs.Numbering.{names_are_numbered, renumbered}
 use Rattle.book.proofs.Refusals.{refused_exactly}
-use Rattle.book.proofs.Sound.{sound, ok-or-err}
+use Rattle.book.proofs.Sound.{sound, ok_or_err}
 use Rattle.book.proofs.Trees.{trees_are_lawful}
 
 pub granted_exactly : GrantedExactly
@@ -45,7 +45,7 @@ every_text_has_one_answer text = record {
   some = some (read_book text) refl;
   one_tree = λ t u g h. ok_same t u (sym (grants text t g) ∙ grants text u h);
   one_refusal = λ f g h k. err_same f g (sym ((refused_exactly text f).1 h) ∙ (refused_exactly text g).1 k);
-  never_both = λ t f g h. ok-or-err t f (sym ((refused_exactly text f).1 h) ∙ grants text t g);
+  never_both = λ t f g h. ok_or_err t f (sym ((refused_exactly text f).1 h) ∙ grants text t g);
 }
   where
     some : (r : Result Tree Fault) → read_book text ≡ r → ((t : Tree) × Grants text t) ⊎ ((f : Fault) × Refuses text f)

@@ -8,7 +8,7 @@ use Rattle.markup.proofs.Granted.{Granted, grant, refuse, either, chain}
 use Rattle.tree.specs.declared.element.Element.{Element}
 use Rattle.lexer.specs.Item.{Item, Item.start, Item.end, Item.empty, Item.text}
 use Rattle.book.specs.Reading.{OpenElement, State, Consistent, initial, ended, entered, opened, leaf, close, blanks_only, step}
-use Rattle.book.proofs.Naming.{intern-different}
+use Rattle.book.proofs.Naming.{intern_different}
 
 pub initial_consistent : Consistent initial
 initial_consistent = record { different = λ j k l m e. absurd (omega arith); among = tt }
@@ -21,12 +21,12 @@ module _ (s : State) (c : Consistent s) (p : ℕ) (name : List ℕ) where
   opened_consistent : (e : Element) → Consistent (opened s name e)
   opened_consistent e =
       let long = length-append s.elements (e ∷ []) in
-      record { different = intern-different s.names name c.different; among = (omega arith, among_more _ _ s.opens (omega arith) c.among) }
+      record { different = intern_different s.names name c.different; among = (omega arith, among_more _ _ s.opens (omega arith) c.among) }
 
   leaf_consistent : (e : Element) → Consistent (leaf s p name e)
   leaf_consistent e =
       let long = length-append s.elements (ended e (p + 1 + length name) ∷ []) in
-      record { different = intern-different s.names name c.different; among = among_more _ _ s.opens (omega arith) c.among }
+      record { different = intern_different s.names name c.different; among = among_more _ _ s.opens (omega arith) c.among }
 
 close_consistent : (s : State) (os : List OpenElement) (p : ℕ) (name : List ℕ) → Consistent s → Every (λ (o : OpenElement). o.number < length s.elements) os
     → Granted Consistent (close s os p name)
@@ -41,12 +41,12 @@ any : {X : Type 0} (r : Result X Fault) → Granted (λ _. Unit {0}) r
 any (Ok x) = grant x tt
 any (Err f) = refuse f
 
-granted-step : (s : State) (p : ℕ) (i : Item) → Consistent s → Granted Consistent (step s p i)
-granted-step s p (start name) c = chain _ (entered s p name) (λ e. Ok (opened s name e)) (any (entered s p name)) (λ e _. grant _ (opened_consistent s c p name e))
-granted-step s p (empty name) c = chain _ (entered s p name) (λ e. Ok (leaf s p name e)) (any (entered s p name)) (λ e _. grant _ (leaf_consistent s c p name e))
-granted-step s p (end name) c = close_consistent s s.opens p name c c.among
-granted-step s p (text bs) c =
+granted_step : (s : State) (p : ℕ) (i : Item) → Consistent s → Granted Consistent (step s p i)
+granted_step s p (start name) c = chain _ (entered s p name) (λ e. Ok (opened s name e)) (any (entered s p name)) (λ e _. grant _ (opened_consistent s c p name e))
+granted_step s p (empty name) c = chain _ (entered s p name) (λ e. Ok (leaf s p name e)) (any (entered s p name)) (λ e _. grant _ (leaf_consistent s c p name e))
+granted_step s p (end name) c = close_consistent s s.opens p name c c.among
+granted_step s p (text bs) c =
     either (eqb (length s.opens) 0) _ _ (λ _. chain _ (blanks_only p bs) (λ _. Ok s) (any (blanks_only p bs)) (λ _ _. grant _ c)) (λ _. grant _ c)
 
 pub step_consistent : (s t : State) (p : ℕ) (i : Item) → Consistent s → step s p i ≡ Ok t → Consistent t
-step_consistent s t p i c e = (subst (Granted Consistent) e (granted-step s p i c)).granted
+step_consistent s t p i c e = (subst (Granted Consistent) e (granted_step s p i c)).granted

@@ -14,8 +14,8 @@ pub record Allowed (opens count number : ℕ) : Type 0 where
   pub few : count < 65535
   pub names : number < 1024
 
-pub allowed-granted : (opens count number p : ℕ) → Granted (λ _. Allowed opens count number) (allowed opens count number p)
-allowed-granted opens count number p =
+pub allowed_granted : (opens count number p : ℕ) → Granted (λ _. Allowed opens count number) (allowed opens count number p)
+allowed_granted opens count number p =
     either (eqb opens 0 && not (eqb count 0)) _ _ (λ _. refuse _)
     (λ a. either (leb 64 opens) _ _ (λ _. refuse _)
     (λ b. either (leb 65535 count || leb 1024 number) _ _ (λ _. refuse _)
@@ -27,8 +27,8 @@ allowed-granted opens count number p =
     grant _ (record { free = a; level = omega arith; few = omega arith; names = omega arith }))))
 
 -- none of the refusals holds
-pub allowed-ok : (opens count number p : ℕ) → Allowed opens count number → allowed opens count number p ≡ Ok tt
-allowed-ok opens count number p a =
+pub allowed_ok : (opens count number p : ℕ) → Allowed opens count number → allowed opens count number p ≡ Ok tt
+allowed_ok opens count number p a =
     let shallow : opens < 64 = omega (arith, a.level) in
     cond-false _ _ _ a.free ∙ cond-false _ _ _ (lt-leb 64 opens shallow) ∙ cond-false _ _ _ (or_from _ _ (lt-leb 65535 count a.few) (lt-leb 1024 number a.names))
 
@@ -38,7 +38,7 @@ pub enter_by : (opens count p : ℕ) (names : List (List ℕ)) (name : List ℕ)
 enter_by opens count p names name r e = ap (λ x. and_then x (λ _. Ok (record { start = p; «end» = 0; level = opens; name = position names name }))) e
 
 -- by the number that was found
-pub enter-at : (opens count number p : ℕ) (names : List (List ℕ)) (name : List ℕ) (r : Result (Unit {0}) Fault) → number ≡ position names name → allowed opens count number p ≡ r
+pub enter_at : (opens count number p : ℕ) (names : List (List ℕ)) (name : List ℕ) (r : Result (Unit {0}) Fault) → number ≡ position names name → allowed opens count number p ≡ r
     → enter opens count names p name ≡ and_then r (λ _. Ok (record { start = p; «end» = 0; level = opens; name = number }))
-enter-at opens count number p names name r is e =
+enter_at opens count number p names name r is e =
     enter_by opens count p names name r (ap (λ n. allowed opens count n p) (sym is) ∙ e) ∙ ap (λ n. and_then r (λ _. Ok (record { start = p; «end» = 0; level = opens; name = n }))) (sym is)

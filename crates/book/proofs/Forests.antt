@@ -6,7 +6,7 @@ use Rattle.std.proofs.lemmas.Bool.{lt-ltb, le-ltb, and_from, and_left, and_right
 use Rattle.tree.specs.Region.{Region, Contains, contains}
 use Rattle.lexer.specs.Item.{Item.start, Item.end, Item.empty, spelling}
 use Rattle.book.specs.Document.{Content, Content.none, Content.byte, Content.bare, Content.full, spell, Single, Node, nodes_at}
-use Rattle.book.proofs.Complete.{blank-nodes}
+use Rattle.book.proofs.Complete.{blank_nodes}
 
 abbrev pub region_of_node : Node → Region
 region_of_node n = record { start = n.start; end = n.end; level = n.level }
@@ -49,9 +49,9 @@ count-append : (xs ys : List Node) (v : Node) → count_in (xs ++ ys) v ≡ coun
 count-append [] ys v = omega arith
 count-append (x ∷ xs) ys v = let h = count-append xs ys v in omega arith
 
-none-around : (us : List Node) (v : Node) → Every (λ u. contains (region_of_node u) (region_of_node v) ≡ false) us → count_in us v ≡ 0
-none-around [] v h = refl
-none-around (u ∷ us) v h = let k = none-around us v h.1 in let z = weight_no u v h.0 in omega arith
+none_around : (us : List Node) (v : Node) → Every (λ u. contains (region_of_node u) (region_of_node v) ≡ false) us → count_in us v ≡ 0
+none_around [] v h = refl
+none_around (u ∷ us) v h = let k = none_around us v h.1 in let z = weight_no u v h.0 in omega arith
 
 -- these stand from p to q
 abbrev pub Span : ℕ → ℕ → Node → Type 0
@@ -85,10 +85,10 @@ join level p m k q xs ys a b c f g =
       pairs = pairs_append Ordered xs ys f.pairs g.pairs (All-weaker (Span p m) (λ u. Every (Ordered u) ys) later xs f.span);
       levels = All-append _ xs ys
           (All-weaker (λ v. Span p m v × (v.level ≡ level + count_in xs v)) (λ v. v.level ≡ level + count_in (xs ++ ys) v) (λ v s. let e = count-append xs ys v in
-          let z = none-around ys v (All-weaker (Span k q) (λ u. contains (region_of_node u) (region_of_node v) ≡ false) (λ u t. starts_later u v (omega arith)) ys g.span) in omega arith) xs
+          let z = none_around ys v (All-weaker (Span k q) (λ u. contains (region_of_node u) (region_of_node v) ≡ false) (λ u t. starts_later u v (omega arith)) ys g.span) in omega arith) xs
           (all_both (Span p m) _ xs f.span f.levels))
           (All-weaker (λ v. Span k q v × (v.level ≡ level + count_in ys v)) (λ v. v.level ≡ level + count_in (xs ++ ys) v) (λ v s. let e = count-append xs ys v in
-          let z = none-around xs v (All-weaker (Span p m) (λ u. contains (region_of_node u) (region_of_node v) ≡ false) (λ u t. ends_earlier u v (omega arith)) xs f.span) in omega arith) ys
+          let z = none_around xs v (All-weaker (Span p m) (λ u. contains (region_of_node u) (region_of_node v) ≡ false) (λ u t. ends_earlier u v (omega arith)) xs f.span) in omega arith) ys
           (all_both (Span k q) _ ys g.span g.levels));
     }
 
@@ -99,7 +99,7 @@ wrap level p k m name xs a b f =
     let x : Node = record { start = p; end = m; level = level; name = name } in
     let self : contains (region_of_node x) (region_of_node x) ≡ false = starts_later x x (omega arith) in
     let selfs = weight_no x x self in
-    let z = none-around xs x (All-weaker (Span k m) (λ u. contains (region_of_node u) (region_of_node x) ≡ false) (λ u s. starts_later u x (omega arith)) xs f.span) in
+    let z = none_around xs x (All-weaker (Span k m) (λ u. contains (region_of_node u) (region_of_node x) ≡ false) (λ u s. starts_later u x (omega arith)) xs f.span) in
     record {
       span = ((omega arith, omega arith, omega arith), All-weaker (Span k m) (Span p (suc m)) (λ u s. omega arith) xs f.span);
       pairs = (All-weaker (Span k m) (Ordered x) (λ v s. (omega arith, inl s.2)) xs f.span, f.pairs);
@@ -144,12 +144,12 @@ abbrev pub Around : List Node → Type 0
 Around [] = ⊥
 Around (x ∷ xs) = Every (λ v. Contains (region_of_node x) (region_of_node v)) xs
 
-pub single-around : (c : Content) (p : ℕ) → Single c → Around (nodes_at p 0 c)
-single-around none p h = absurd h
-single-around (byte b c) p h = single-around c (p + 1) h.1
-single-around (bare name c) p h =
-    subst (Every _) (sym (blank-nodes c (p + length (spelling (empty name))) 0 h)) tt
-single-around (full name inner c) p h =
+pub single_around : (c : Content) (p : ℕ) → Single c → Around (nodes_at p 0 c)
+single_around none p h = absurd h
+single_around (byte b c) p h = single_around c (p + 1) h.1
+single_around (bare name c) p h =
+    subst (Every _) (sym (blank_nodes c (p + length (spelling (empty name))) 0 h)) tt
+single_around (full name inner c) p h =
     let from : ℕ = p + length (spelling (start name)) in
     let to : ℕ = from + length (spell inner) in
     let k : ℕ = to + length (spelling (end name)) in
@@ -157,4 +157,4 @@ single-around (full name inner c) p h =
     let x : Node = record { start = p; end = to; level = 0; name = name } in
     All-append (λ v. Contains (region_of_node x) (region_of_node v)) (nodes_at from 1 inner) (nodes_at k 0 c)
     (All-weaker (Span from to) (λ v. Contains (region_of_node x) (region_of_node v)) (λ v s. (omega arith, s.2)) (nodes_at from 1 inner) f.span)
-    (subst (Every _) (sym (blank-nodes c k 0 h)) tt)
+    (subst (Every _) (sym (blank_nodes c k 0 h)) tt)

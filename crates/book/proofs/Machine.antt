@@ -39,13 +39,13 @@ runs_item s p b bs i e =
     ap (λ r. and_then r (λ i. and_then (step s p i) (λ t. run (length bs) t (p + length (spelling i)) (drop (length (spelling i)) (b ∷ bs))))) e
     ∙ (λ j. and_then (step s p i) (λ t. run_more (length bs) (length (drop n (b ∷ bs))) t (p + n) (drop n (b ∷ bs)) (omega (arith, length-drop n (b ∷ bs))) (omega arith) j))
 
-pub runs-fault : (s : State) (p b : ℕ) (bs : List ℕ) (f : Fault) → item_at p (b ∷ bs) ≡ Err f → runs s p (b ∷ bs) ≡ Err f
-runs-fault s p b bs f e =
+pub runs_fault : (s : State) (p b : ℕ) (bs : List ℕ) (f : Fault) → item_at p (b ∷ bs) ≡ Err f → runs s p (b ∷ bs) ≡ Err f
+runs_fault s p b bs f e =
     ap (λ r. and_then r (λ i. and_then (step s p i) (λ t. run (length bs) t (p + length (spelling i)) (drop (length (spelling i)) (b ∷ bs))))) e
 
 -- an empty run alters nothing
-between-empty : (s : State) (p : ℕ) → between s p [] ≡ Ok s
-between-empty s p = cond_both (eqb (length s.opens) 0) (Ok s) (Ok s) (λ r. r ≡ Ok s) (λ _. refl) (λ _. refl)
+between_empty : (s : State) (p : ℕ) → between s p [] ≡ Ok s
+between_empty s p = cond_both (eqb (length s.opens) 0) (Ok s) (Ok s) (λ r. r ≡ Ok s) (λ _. refl) (λ _. refl)
 
 module _ (s : State) (p : ℕ) where
   Front : List ℕ → ℕ → Result State Fault
@@ -53,13 +53,13 @@ module _ (s : State) (p : ℕ) where
 
   no_run : (bs : List ℕ) → Front bs 0 ≡ runs s p bs
   unfolding Front
-  no_run bs = let z : p + 0 ≡ p = omega arith in ap (λ r. and_then r (λ t. runs t (p + 0) bs)) (between-empty s p) ∙ ap (λ q. runs s q bs) z
+  no_run bs = let z : p + 0 ≡ p = omega arith in ap (λ r. and_then r (λ t. runs t (p + 0) bs)) (between_empty s p) ∙ ap (λ q. runs s q bs) z
 
   -- a text run, which may be empty
-  text-run : (bs : List ℕ) → runs s p bs ≡ Front bs (prefix_len text_byte bs)
+  text_run : (bs : List ℕ) → runs s p bs ≡ Front bs (prefix_len text_byte bs)
   unfolding Front
-  text-run [] = sym (no_run [])
-  text-run (b ∷ bs) =
+  text_run [] = sym (no_run [])
+  text_run (b ∷ bs) =
       ⊎_elim
       (λ (e : eqb b 60 ≡ true). sym (ap (Front (b ∷ bs)) (ap (λ x. cond (not x) (1 + prefix_len text_byte bs) 0) e) ∙ no_run (b ∷ bs)))
       (λ (e : eqb b 60 ≡ false).
@@ -74,8 +74,8 @@ module _ (s : State) (p : ℕ) where
 abbrev pub Calm : State → ℕ → Type 0
 Calm s b = (eqb (length s.opens) 0 ≡ false) ⊎ (blank_byte b ≡ true)
 
-eqb-suc : (a b : ℕ) → eqb (suc a) (suc b) ≡ eqb a b
-eqb-suc a b =
+eqb_suc : (a b : ℕ) → eqb (suc a) (suc b) ≡ eqb a b
+eqb_suc a b =
     ⊎_elim (λ (e : eqb a b ≡ true). eq-eqb _ _ (ap suc (eqb-true a b e)) ∙ sym e)
     (λ (e : eqb a b ≡ false). let ne = eqb-false a b e in ne_eqb (suc a) (suc b) (λ q. ne (omega arith)) ∙ sym e) (cases_Bool (eqb a b))
 
@@ -85,32 +85,32 @@ blanks_byte p b xs h =
     let z : prefix_len blank_byte (b ∷ xs) ≡ suc m = ap (λ x. cond x (1 + m) 0) h ∙ omega arith in
     let q : p + suc m ≡ p + 1 + m = omega arith in
     ap (λ k. cond (eqb k (suc (length xs))) (Ok tt) (Err (fault Stray (p + k)))) z
-    ∙ (λ j. cond (eqb-suc m (length xs) j) (Ok tt) (Err (fault Stray (q j))))
+    ∙ (λ j. cond (eqb_suc m (length xs) j) (Ok tt) (Err (fault Stray (q j))))
 
-between-byte : (s : State) (p b : ℕ) (xs : List ℕ) → Calm s b → between s p (b ∷ xs) ≡ between s (p + 1) xs
-between-byte s p b xs (inl h) = cond-false _ _ _ h ∙ sym (cond-false _ _ _ h)
-between-byte s p b xs (inr h) = ap (λ r. cond (eqb (length s.opens) 0) (and_then r (λ _. Ok s)) (Ok s)) (blanks_byte p b xs h)
+between_byte : (s : State) (p b : ℕ) (xs : List ℕ) → Calm s b → between s p (b ∷ xs) ≡ between s (p + 1) xs
+between_byte s p b xs (inl h) = cond-false _ _ _ h ∙ sym (cond-false _ _ _ h)
+between_byte s p b xs (inr h) = ap (λ r. cond (eqb (length s.opens) 0) (and_then r (λ _. Ok s)) (Ok s)) (blanks_byte p b xs h)
 
-pub runs-byte : (s : State) (p b : ℕ) (bs : List ℕ) → text_byte b ≡ true → Calm s b → runs s p (b ∷ bs) ≡ runs s (p + 1) bs
+pub runs_byte : (s : State) (p b : ℕ) (bs : List ℕ) → text_byte b ≡ true → Calm s b → runs s p (b ∷ bs) ≡ runs s (p + 1) bs
 unfolding Front
-runs-byte s p b bs t h =
+runs_byte s p b bs t h =
     let m : ℕ = prefix_len text_byte bs in
     let z : prefix_len text_byte (b ∷ bs) ≡ suc m = ap (λ x. cond x (1 + m) 0) t ∙ omega arith in
     let q : p + suc m ≡ p + 1 + m = omega arith in
-    text-run s p (b ∷ bs) ∙ ap (Front s p (b ∷ bs)) z
-    ∙ (λ j. and_then (between-byte s p b (take m bs) h j) (λ t. runs t (q j) (drop m bs)))
-    ∙ sym (text-run s (p + 1) bs)
+    text_run s p (b ∷ bs) ∙ ap (Front s p (b ∷ bs)) z
+    ∙ (λ j. and_then (between_byte s p b (take m bs) h j) (λ t. runs t (q j) (drop m bs)))
+    ∙ sym (text_run s (p + 1) bs)
 
-pub runs-stray : (s : State) (p b : ℕ) (bs : List ℕ) → text_byte b ≡ true → eqb (length s.opens) 0 ≡ true → blank_byte b ≡ false → runs s p (b ∷ bs) ≡ Err (fault Stray p)
+pub runs_stray : (s : State) (p b : ℕ) (bs : List ℕ) → text_byte b ≡ true → eqb (length s.opens) 0 ≡ true → blank_byte b ≡ false → runs s p (b ∷ bs) ≡ Err (fault Stray p)
 unfolding Front
-runs-stray s p b bs t h k =
+runs_stray s p b bs t h k =
     let m : ℕ = prefix_len text_byte bs in
     let z : prefix_len text_byte (b ∷ bs) ≡ suc m = ap (λ x. cond x (1 + m) 0) t ∙ omega arith in
     let y : prefix_len blank_byte (b ∷ take m bs) ≡ 0 = ap (λ x. cond x (1 + prefix_len blank_byte (take m bs)) 0) k in
     let ne : eqb (prefix_len blank_byte (b ∷ take m bs)) (suc (length (take m bs))) ≡ false = ne_eqb _ _ (λ e. omega arith) in
     let q : p + prefix_len blank_byte (b ∷ take m bs) ≡ p = omega arith in
     let bad : blanks_only p (b ∷ take m bs) ≡ Err (fault Stray (p + prefix_len blank_byte (b ∷ take m bs))) = cond-false _ _ _ ne in
-    text-run s p (b ∷ bs) ∙ ap (Front s p (b ∷ bs)) z
+    text_run s p (b ∷ bs) ∙ ap (Front s p (b ∷ bs)) z
     ∙ ap (λ r. and_then r (λ t. runs t (p + suc m) (drop m bs))) (cond-true (eqb (length s.opens) 0) _ (Ok s) h ∙ ap (λ (r : Result (Unit {0}) Fault). and_then r (λ _. Ok s)) bad)
     ∙ ap (λ k. Err (fault Stray k)) q
 

@@ -36,13 +36,13 @@ module _ (name : List ℕ) where
 
 -- One more name.
 module _ (names : List (List ℕ)) (name : List ℕ) where
-  pub position-within : position names name ≤ length names
-  position-within = prefix_len-le-length (λ n. not (bytes_eq n name)) names
+  pub position_within : position names name ≤ length names
+  position_within = prefix_len-le-length (λ n. not (bytes_eq n name)) names
 
   -- it is there already, or comes at the end
   pub interned : ((position names name < length names) × (intern names name ≡ names)) ⊎ ((position names name ≡ length names) × (intern names name ≡ names ++ name ∷ []))
   interned =
-      let l = position-within in
+      let l = position_within in
       ⊎_elim (λ (e : eqb (position names name) (length names) ≡ true). inr (eqb-true _ _ e, cond-true _ _ _ e))
       (λ (e : eqb (position names name) (length names) ≡ false).
       let ne = eqb-false _ _ e in let lt : position names name < length names = omega arith in inl (lt, cond-false _ _ _ e))
@@ -57,13 +57,13 @@ module _ (names : List (List ℕ)) (name : List ℕ) where
   pub intern_grows : length names ≤ length (intern names name)
   intern_grows = omega (arith, intern_counts)
 
-  pub position-below : position names name < length (intern names name)
-  position-below = omega (arith, intern_counts)
+  pub position_below : position names name < length (intern names name)
+  position_below = omega (arith, intern_counts)
 
   -- its number leads to it
-  pub intern-at : get_or (intern names name) (position names name) [] ≡ name
+  pub intern_at : get_or (intern names name) (position names name) [] ≡ name
   unfolding Here
-  intern-at =
+  intern_at =
       ⊎_elim (λ q. ap (λ l. get_or l (position names name) []) q.1 ∙ (here name names).0 q.0)
       (λ q. (λ i. get_or (q.1 i) (q.0 i) []) ∙ get_or-append_seam names name [] [])
       interned
@@ -73,13 +73,13 @@ module _ (names : List (List ℕ)) (name : List ℕ) where
   intern_keeps i h =
       ⊎_elim (λ q. ap (λ l. get_or l i []) q.1) (λ q. ap (λ l. get_or l i []) q.1 ∙ get_or-append names (name ∷ []) [] i h) interned
 
-  pub intern-all : (P : List ℕ → Type 0) → Every P names → P name → Every P (intern names name)
-  intern-all P h k =
+  pub intern_all : (P : List ℕ → Type 0) → Every P names → P name → Every P (intern names name)
+  intern_all P h k =
       ⊎_elim (λ q. subst (Every P) (sym q.1) h) (λ q. subst (Every P) (sym q.1) (All-append P names (name ∷ []) h (k, tt))) interned
 
-  pub intern-different : Different names → Different (intern names name)
+  pub intern_different : Different names → Different (intern names name)
   unfolding Here
-  intern-different d =
+  intern_different d =
       ⊎_elim (λ q. subst Different (sym q.1) d)
       (λ q. subst Different (sym q.1) (λ j k l m e.
       let long = length-append names (name ∷ []) in

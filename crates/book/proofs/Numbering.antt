@@ -12,7 +12,7 @@ use Rattle.book.specs.Document.{Node, position, intern, numbered, named, indexed
 use Rattle.book.specs.Reading.{Different}
 use Rattle.book.specs.Answer.{node_of, nodes_of}
 use Rattle.book.specs.Promises.{NamesAreNumbered}
-use Rattle.book.proofs.Naming.{interned, intern_counts, intern_grows, intern-at, intern_keeps, intern-all, intern-different, position-within, position-below}
+use Rattle.book.proofs.Naming.{interned, intern_counts, intern_grows, intern_at, intern_keeps, intern_all, intern_different, position_within, position_below}
 use Rattle.book.proofs.Search.{position_is}
 
 pub named_grows : (names : List (List ℕ)) (ns : List Node) → length names ≤ length (named names ns)
@@ -27,19 +27,19 @@ pub numbered-append : (names : List (List ℕ)) (xs ys : List Node) → numbered
 numbered-append names [] ys = refl
 numbered-append names (x ∷ xs) ys = ap (λ r. record { start = x.start; «end» = x.end; level = x.level; name = position names x.name } ∷ r) (numbered-append (intern names x.name) xs ys)
 
-pub numbered-length : (names : List (List ℕ)) (ns : List Node) → length (numbered names ns) ≡ length ns
-numbered-length names [] = refl
-numbered-length names (n ∷ ns) = ap suc (numbered-length (intern names n.name) ns)
+pub numbered_length : (names : List (List ℕ)) (ns : List Node) → length (numbered names ns) ≡ length ns
+numbered_length names [] = refl
+numbered_length names (n ∷ ns) = ap suc (numbered_length (intern names n.name) ns)
 
 -- The names are all there, different, and lead back.
 
-pub named-all : (P : List ℕ → Type 0) (names : List (List ℕ)) (ns : List Node) → Every P names → Every (λ n. P n.name) ns → Every P (named names ns)
-named-all P names [] h k = h
-named-all P names (n ∷ ns) h k = named-all P (intern names n.name) ns (intern-all names n.name P h k.0) k.1
+pub named_all : (P : List ℕ → Type 0) (names : List (List ℕ)) (ns : List Node) → Every P names → Every (λ n. P n.name) ns → Every P (named names ns)
+named_all P names [] h k = h
+named_all P names (n ∷ ns) h k = named_all P (intern names n.name) ns (intern_all names n.name P h k.0) k.1
 
-pub named-different : (names : List (List ℕ)) (ns : List Node) → Different names → Different (named names ns)
-named-different names [] d = d
-named-different names (n ∷ ns) d = named-different (intern names n.name) ns (intern-different names n.name d)
+pub named_different : (names : List (List ℕ)) (ns : List Node) → Different names → Different (named names ns)
+named_different names [] d = d
+named_different names (n ∷ ns) d = named_different (intern names n.name) ns (intern_different names n.name d)
 
 named_keeps : (names : List (List ℕ)) (ns : List Node) (i : ℕ) → i < length names → get_or (named names ns) i [] ≡ get_or names i []
 named_keeps names [] i h = refl
@@ -50,14 +50,14 @@ named_keeps names (n ∷ ns) i h =
 pub uses : (names : List (List ℕ)) (ns : List Node) → FirstUses (length names) (numbered names ns) (length (named names ns))
 uses names [] = refl
 uses names (n ∷ ns) = (
-  position-within names n.name,
+  position_within names n.name,
   subst (λ k. FirstUses k (numbered (intern names n.name) ns) (length (named (intern names n.name) ns))) (intern_counts names n.name) (uses (intern names n.name) ns),
 )
 
 numbers : (names : List (List ℕ)) (ns : List Node) → map (node_of (named names ns)) (numbered names ns) ≡ ns
 numbers names [] = refl
 numbers names (n ∷ ns) =
-    let named-so = named_keeps (intern names n.name) ns (position names n.name) (position-below names n.name) ∙ intern-at names n.name in
+    let named-so = named_keeps (intern names n.name) ns (position names n.name) (position_below names n.name) ∙ intern_at names n.name in
     λ i. record { start = n.start; end = n.end; level = n.level; name = named-so i } ∷ numbers (intern names n.name) ns i
 
 pub names_are_numbered : NamesAreNumbered

@@ -19,7 +19,7 @@ use Rattle.book.specs.Refusing.{History, History.begin, History.byte, History.ba
 use Rattle.book.specs.Promises.{RefusedExactly}
 use Rattle.book.proofs.Entering.{enter_by}
 use Rattle.book.proofs.Runs.{book_is, too_long}
-use Rattle.book.proofs.Machine.{runs, Calm, runs-byte, runs-stray, runs-fault, runs_tag, FrontTag, front}
+use Rattle.book.proofs.Machine.{runs, Calm, runs_byte, runs_stray, runs_fault, runs_tag, FrontTag, front}
 
 err_same : {X : Type 0} (f g : Fault) → ◌≡◌ {A = Result X Fault} (Err f) (Err g) → f ≡ g
 err_same f g e = cc
@@ -147,9 +147,9 @@ closing_cases h es ns (o ∷ os) name m =
     (cases_Bool (bytes_eq o.name name))
 
 -- The end of the text.
-closed-wrong : (h : History) (s : State) (os : List OpenElement) (b : Fault) → map spot os ≡ opens_of h → 0 < count_of h → closed s os ≡ Err b → Wrong h [] b
-closed-wrong h s [] b m c e = absurd (ok_no_err _ b e)
-closed-wrong h s (o ∷ os) b m c e = unclosed (spot o) (map spot os) refl c (sym m) (sym (err_same _ b e))
+closed_wrong : (h : History) (s : State) (os : List OpenElement) (b : Fault) → map spot os ≡ opens_of h → 0 < count_of h → closed s os ≡ Err b → Wrong h [] b
+closed_wrong h s [] b m c e = absurd (ok_no_err _ b e)
+closed_wrong h s (o ∷ os) b m c e = unclosed (spot o) (map spot os) refl c (sym m) (sym (err_same _ b e))
 
 module _ (whole : List ℕ) (f : Fault) where
   -- what is left to read from a state is refused
@@ -159,16 +159,16 @@ module _ (whole : List ℕ) (f : Fault) where
   stop : (h : History) (rest : List ℕ) → Allowed h → whole ≡ written h ++ rest → Wrong h rest f → Stops whole f
   stop h rest a c w = record { read = h; rest = rest; allowed = a; cut = c; wrong = w }
 
-  at-end : (h : History) (s : State) → Allowed h → Matches h s → whole ≡ written h ++ [] → Fails s (length (written h)) [] → Stops whole f
+  at_end : (h : History) (s : State) → Allowed h → Matches h s → whole ≡ written h ++ [] → Fails s (length (written h)) [] → Stops whole f
   unfolding Fails
-  at-end h s a m c e =
+  at_end h s a m c e =
       let long : length whole ≡ length (written h) = ap (λ l. length l) (c ∙ append-nil (written h)) in
       ⊎_elim
       (λ (z : eqb (length s.elements) 0 ≡ true).
       stop h [] a c (missing refl (sym m.count ∙ eqb-true _ _ z) (sym (err_same _ f (sym (cond-true _ _ _ z) ∙ e)) ∙ ap (fault TopElement) long)))
       (λ (z : eqb (length s.elements) 0 ≡ false).
       let ne = eqb-false (length s.elements) 0 z in
-      stop h [] a c (closed-wrong h s s.opens f m.opens (omega (arith, m.count)) (sym (cond-false _ _ _ z) ∙ e)))
+      stop h [] a c (closed_wrong h s s.opens f m.opens (omega (arith, m.count)) (sym (cond-false _ _ _ z) ∙ e)))
       (cases_Bool (eqb (length s.elements) 0))
 
   GoesOn : ℕ → Type 0
@@ -221,7 +221,7 @@ module _ (whole : List ℕ) (f : Fault) where
         ⊎_elim
         (λ (t : FrontTag s p (60 ∷ bs)).
         tags t.item t.rest t.lawful (omega (arith, t.shorter)) (c ∙ ap (λ l. written h ++ l) t.spelled) (ap (λ l. and_then (runs s p l) (finished (length whole))) (sym t.spelled) ∙ e))
-        (λ x. stop h (60 ∷ bs) a c (bytes bs refl (bad_tag p bs f (x.1 ∙ ap Err (err_same x.0 f (sym (ap (λ r. and_then r (finished (length whole))) (runs-fault s p 60 bs x.0 x.1)) ∙ e))))))
+        (λ x. stop h (60 ∷ bs) a c (bytes bs refl (bad_tag p bs f (x.1 ∙ ap Err (err_same x.0 f (sym (ap (λ r. and_then r (finished (length whole))) (runs_fault s p 60 bs x.0 x.1)) ∙ e))))))
         (front s p bs)
 
     texts : (b : ℕ) (bs : List ℕ) → eqb b 60 ≡ false → length bs ≤ k → whole ≡ written h ++ b ∷ bs → Fails s (length (written h)) (b ∷ bs) → Stops whole f
@@ -231,13 +231,13 @@ module _ (whole : List ℕ) (f : Fault) where
         let tb : text_byte b ≡ true = ap not x in
         let go : Calm s b → ((0 < length (opens_of h)) ⊎ (blank_byte b ≡ true)) → Stops whole f =
         λ calm ok. next (byte h b) s (b ∷ []) bs len (a, tb, ok) (record { count = m.count; names = m.names; opens = m.opens }) refl c
-        (ap (λ r. and_then r (finished (length whole))) (sym (runs-byte s p b bs tb calm)) ∙ e) in
+        (ap (λ r. and_then r (finished (length whole))) (sym (runs_byte s p b bs tb calm)) ∙ e) in
         ⊎_elim
         (λ (o : eqb (length s.opens) 0 ≡ true).
         ⊎_elim (λ (w : blank_byte b ≡ true). go (inr w) (inr w))
         (λ (w : blank_byte b ≡ false).
         stop h (b ∷ bs) a c (outside b bs refl tb w (sym (depth h s m) ∙ eqb-true _ _ o)
-        (sym (err_same _ f (sym (ap (λ r. and_then r (finished (length whole))) (runs-stray s p b bs tb o w)) ∙ e)))))
+        (sym (err_same _ f (sym (ap (λ r. and_then r (finished (length whole))) (runs_stray s p b bs tb o w)) ∙ e)))))
         (cases_Bool (blank_byte b)))
         (λ (o : eqb (length s.opens) 0 ≡ false).
         let ne = eqb-false (length s.opens) 0 o in
@@ -246,9 +246,9 @@ module _ (whole : List ℕ) (f : Fault) where
 
   goes_on : (k : ℕ) → GoesOn k
   unfolding GoesOn
-  goes_on zero h s [] len a m c e = at-end h s a m c e
+  goes_on zero h s [] len a m c e = at_end h s a m c e
   goes_on zero h s (b ∷ bs) len a m c e = absurd (omega arith)
-  goes_on (suc k) h s [] len a m c e = at-end h s a m c e
+  goes_on (suc k) h s [] len a m c e = at_end h s a m c e
   goes_on (suc k) h s (b ∷ bs) len a m c e =
       ⊎_elim
       (λ (x : eqb b 60 ≡ true).
@@ -312,7 +312,7 @@ reached (byte h b) a =
     let s : State = r.state in
     let m = r.matches in
     let calm : Calm s b = ⊎_elim (λ (l : 0 < length (opens_of h)). inl (ne_eqb (length s.opens) 0 (λ q. omega (arith, depth h s m)))) (λ (w : blank_byte b ≡ true). inr w) a.2 in
-    reach h (byte h b) r s (b ∷ []) refl (record { count = m.count; names = m.names; opens = m.opens }) (λ rest. runs-byte s (length (written h)) b rest a.1 calm)
+    reach h (byte h b) r s (b ∷ []) refl (record { count = m.count; names = m.names; opens = m.opens }) (λ rest. runs_byte s (length (written h)) b rest a.1 calm)
 reached (bare h n) a =
     let r = reached h a.0 in
     let s : State = r.state in
@@ -347,20 +347,20 @@ module _ (h : History) (s : State) (m : Matches h s) (n : ℕ) where
   Ends : List ℕ → Fault → Type 0
   Ends rest f = and_then (runs s (length (written h)) rest) (finished n) ≡ Err f
 
-  unclosed-ends : (os : List OpenElement) (o : ℕ × List ℕ) (ps : List (ℕ × List ℕ)) → map spot os ≡ o ∷ ps → closed s os ≡ Err (fault Unclosed o.0)
-  unclosed-ends [] o ps e = let z : 0 ≡ suc (length ps) = ap (λ l. length l) e in absurd (omega arith)
-  unclosed-ends (x ∷ xs) o ps e = let z : spot x ≡ o = cc in ap (λ y. Err (fault Unclosed y.0)) z
+  unclosed_ends : (os : List OpenElement) (o : ℕ × List ℕ) (ps : List (ℕ × List ℕ)) → map spot os ≡ o ∷ ps → closed s os ≡ Err (fault Unclosed o.0)
+  unclosed_ends [] o ps e = let z : 0 ≡ suc (length ps) = ap (λ l. length l) e in absurd (omega arith)
+  unclosed_ends (x ∷ xs) o ps e = let z : spot x ≡ o = cc in ap (λ y. Err (fault Unclosed y.0)) z
 
-  unfit-ends : (name more rest : List ℕ) (f : Fault) → LawfulName name → (rest ≡ spelling (start name) ++ more) ⊎ (rest ≡ spelling (empty name) ++ more) → Unfit h name f → Ends rest f
+  unfit_ends : (name more rest : List ℕ) (f : Fault) → LawfulName name → (rest ≡ spelling (start name) ++ more) ⊎ (rest ≡ spelling (empty name) ++ more) → Unfit h name f → Ends rest f
   unfolding Ends Entering
-  unfit-ends name more rest f l (inl e) u =
+  unfit_ends name more rest f l (inl e) u =
       let p : ℕ = length (written h) in
       ⊎_elim (λ o. absurd (fit_not_unfit h name f o.1 u))
       (λ o. ap (λ r. and_then (runs s p r) (finished n)) e ∙ ap (λ x. and_then x (finished n)) (runs_tag s p (start name) more l)
       ∙ ap (λ x. and_then (and_then (and_then x (λ e. Ok (opened s name e))) (λ t. runs t (p + length (spelling (start name))) more)) (finished n)) o.1
       ∙ ap Err (unfit_same h name o.0 f o.2 u))
       (entering_cases h s m name l)
-  unfit-ends name more rest f l (inr e) u =
+  unfit_ends name more rest f l (inr e) u =
       let p : ℕ = length (written h) in
       ⊎_elim (λ o. absurd (fit_not_unfit h name f o.1 u))
       (λ o. ap (λ r. and_then (runs s p r) (finished n)) e ∙ ap (λ x. and_then x (finished n)) (runs_tag s p (empty name) more l)
@@ -368,27 +368,27 @@ module _ (h : History) (s : State) (m : Matches h s) (n : ℕ) where
       ∙ ap Err (unfit_same h name o.0 f o.2 u))
       (entering_cases h s m name l)
 
-  wrong-ends : (rest : List ℕ) (f : Fault) → n ≡ length (written h ++ rest) → Wrong h rest f → Ends rest f
+  wrong_ends : (rest : List ℕ) (f : Fault) → n ≡ length (written h ++ rest) → Wrong h rest f → Ends rest f
   unfolding Ends Closing
-  wrong-ends rest f len (outside b more e tb w o is) =
+  wrong_ends rest f len (outside b more e tb w o is) =
       ap (λ r. and_then (runs s (length (written h)) r) (finished n)) e
-      ∙ ap (λ x. and_then x (finished n)) (runs-stray s (length (written h)) b more tb (eq-eqb _ _ (depth h s m ∙ o)) w) ∙ ap Err (sym is)
-  wrong-ends rest f len (bytes more e x) =
+      ∙ ap (λ x. and_then x (finished n)) (runs_stray s (length (written h)) b more tb (eq-eqb _ _ (depth h s m ∙ o)) w) ∙ ap Err (sym is)
+  wrong_ends rest f len (bytes more e x) =
       ap (λ r. and_then (runs s (length (written h)) r) (finished n)) e
-      ∙ ap (λ x. and_then x (finished n)) (runs-fault s (length (written h)) 60 more f (bad_refused (length (written h)) more f (subst (λ l. BadTag l (length (written h)) f) e x)))
-  wrong-ends rest f len (astray name more l e ne is) =
+      ∙ ap (λ x. and_then x (finished n)) (runs_fault s (length (written h)) 60 more f (bad_refused (length (written h)) more f (subst (λ l. BadTag l (length (written h)) f) e x)))
+  wrong_ends rest f len (astray name more l e ne is) =
       let p : ℕ = length (written h) in
       ⊎_elim (λ o. absurd (ne o.2))
       (λ o. ap (λ r. and_then (runs s p r) (finished n)) e ∙ ap (λ x. and_then x (finished n)) (runs_tag s p (end name) more l)
       ∙ ap (λ x. and_then (and_then x (λ t. runs t (p + length (spelling (end name))) more)) (finished n)) o.0 ∙ ap Err (sym is))
       (closing_cases h s.elements s.names s.opens name m)
-  wrong-ends rest f len (unfit name more l e u) = unfit-ends name more rest f l e u
-  wrong-ends rest f len (missing e c is) =
+  wrong_ends rest f len (unfit name more l e u) = unfit_ends name more rest f l e u
+  wrong_ends rest f len (missing e c is) =
       let long : n ≡ length (written h) = len ∙ ap (λ r. length (written h ++ r)) e ∙ ap (λ l. length l) (append-nil (written h)) in
       ap (λ r. and_then (runs s (length (written h)) r) (finished n)) e ∙ cond-true _ _ _ (eq-eqb _ _ (m.count ∙ c)) ∙ ap (λ q. Err (fault TopElement q)) long ∙ ap Err (sym is)
-  wrong-ends rest f len (unclosed o os e c x is) =
+  wrong_ends rest f len (unclosed o os e c x is) =
       let ne : eqb (length s.elements) 0 ≡ false = ne_eqb _ _ (λ q. omega (arith, m.count)) in
-      ap (λ r. and_then (runs s (length (written h)) r) (finished n)) e ∙ cond-false _ _ _ ne ∙ unclosed-ends s.opens o os (m.opens ∙ x) ∙ ap Err (sym is)
+      ap (λ r. and_then (runs s (length (written h)) r) (finished n)) e ∙ cond-false _ _ _ ne ∙ unclosed_ends s.opens o os (m.opens ∙ x) ∙ ap Err (sym is)
 
 refused : (bs : List ℕ) (f : Fault) → Refuses bs f → read_book bs ≡ Err f
 unfolding Ends
@@ -398,7 +398,7 @@ refused bs f (inr h) =
     let r = reached x.read x.allowed in
     book_is bs h.0
     ∙ ap (λ y. and_then y (finished (length bs))) (ap (runs initial 0) x.cut ∙ r.comes x.rest)
-    ∙ wrong-ends x.read r.state r.matches (length bs) x.rest f (ap (λ l. length l) x.cut) x.wrong
+    ∙ wrong_ends x.read r.state r.matches (length bs) x.rest f (ap (λ l. length l) x.cut) x.wrong
 
 pub refused_exactly : RefusedExactly
 refused_exactly bs f = (stops bs f, refused bs f)

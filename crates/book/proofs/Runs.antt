@@ -18,10 +18,10 @@ run_item k s p [] i e = let z : ◌≡◌ {A = ℕ} 0 1 = cc in absurd (omega ar
 run_item k s p (b ∷ ds) i e =
     ap (λ r. and_then r (λ i. and_then (step s p i) (λ t. run k t (p + length (spelling i)) (drop (length (spelling i)) (b ∷ ds))))) (item_of (item_at p (b ∷ ds)) i e)
 
-run-fault : (k : ℕ) (s : State) (p : ℕ) (ds : List ℕ) (f : Fault) → length ds ≤ k → lex p ds ≡ Err f → run k s p ds ≡ Err f
-run-fault k s p [] f h e = let z : ◌≡◌ {A = ℕ} 0 1 = cc in absurd (omega arith)
-run-fault zero s p (b ∷ ds) f h e = absurd (omega arith)
-run-fault (suc k) s p (b ∷ ds) f h e =
+run_fault : (k : ℕ) (s : State) (p : ℕ) (ds : List ℕ) (f : Fault) → length ds ≤ k → lex p ds ≡ Err f → run k s p ds ≡ Err f
+run_fault k s p [] f h e = let z : ◌≡◌ {A = ℕ} 0 1 = cc in absurd (omega arith)
+run_fault zero s p (b ∷ ds) f h e = absurd (omega arith)
+run_fault (suc k) s p (b ∷ ds) f h e =
     ap (λ r. and_then r (λ i. and_then (step s p i) (λ t. run k t (p + length (spelling i)) (drop (length (spelling i)) (b ∷ ds))))) (fault_of (item_at p (b ∷ ds)) f e)
 
 run_end : (k : ℕ) (s : State) (p : ℕ) → run k s p [] ≡ Ok s
@@ -73,7 +73,7 @@ module _ (bs : List ℕ) (p : ℕ) (s : State) (h : Sofar bs p s) where
       subst (λ r. Fails r x) (sym o.2) (fails_then (step s p i) (λ t. run o.0 t (p + length (spelling i)) (drop (p + length (spelling i)) bs)) x st)
 
   pub lex_fails : (f : Fault) → lex p (drop p bs) ≡ Err f → run (length bs) initial 0 bs ≡ Err f
-  lex_fails f e = sym h.same ∙ run-fault h.fuel s p (drop p bs) f (omega (arith, length-drop p bs, h.enough)) e
+  lex_fails f e = sym h.same ∙ run_fault h.fuel s p (drop p bs) f (omega (arith, length-drop p bs, h.enough)) e
 
   pub done : drop p bs ≡ [] → run (length bs) initial 0 bs ≡ Ok s
   done e = sym h.same ∙ ap (run h.fuel s p) e ∙ run_end h.fuel s p

@@ -16,20 +16,20 @@ use Rattle.lexer.specs.Bytes.{blank_byte, text_byte}
 use Rattle.lexer.specs.Item.{Item, Item.start, Item.end, Item.empty, Item.text, Tag, spelling}
 use Rattle.book.specs.Document.{Content, Content.none, Content.byte, Content.bare, Content.full, spell, Lawful, Blank, Single, Node, nodes_at, Document, position, intern, numbered, named, indexed, Shallow, Within}
 use Rattle.book.specs.Reading.{OpenElement, State, initial, allowed, enter, ended, opened, leaf, close, closed, step, tree_of_state, finished, read_book}
-use Rattle.book.proofs.Entering.{Allowed, allowed-granted}
-use Rattle.book.proofs.Machine.{runs, Calm, runs-byte, runs-stray, runs-fault, runs_tag, FrontTag, front}
+use Rattle.book.proofs.Entering.{Allowed, allowed_granted}
+use Rattle.book.proofs.Machine.{runs, Calm, runs_byte, runs_stray, runs_fault, runs_tag, FrontTag, front}
 use Rattle.book.proofs.Runs.{book_is, too_long}
 use Rattle.book.proofs.Naming.{interned}
-use Rattle.book.proofs.Numbering.{numbered-length}
+use Rattle.book.proofs.Numbering.{numbered_length}
 
 -- Results.
 
-pub ok-or-err : {X : Type 0} (x : X) (f : Fault) → ◌≡◌ {A = Result X Fault} (Err f) (Ok x) → ⊥
-ok-or-err x f e = let z : ◌≡◌ {A = ℕ} 0 1 = cc in omega arith
+pub ok_or_err : {X : Type 0} (x : X) (f : Fault) → ◌≡◌ {A = Result X Fault} (Err f) (Ok x) → ⊥
+ok_or_err x f e = let z : ◌≡◌ {A = ℕ} 0 1 = cc in omega arith
 
 pub then_ok : {X Y : Type 0} (r : Result X Fault) (k : X → Result Y Fault) (y : Y) → and_then r k ≡ Ok y → (x : X) × (r ≡ Ok x) × (k x ≡ Ok y)
 then_ok (Ok x) k y e = (x, refl, e)
-then_ok (Err f) k y e = absurd (ok-or-err y f e)
+then_ok (Err f) k y e = absurd (ok_or_err y f e)
 
 -- What follows when these elements are open: a row up to each end tag, and the row outside.
 
@@ -128,8 +128,8 @@ record Told (s : State) (p : ℕ) (bs : List ℕ) (t : State) : Type 0 where
   few : length t.elements ≤ 65535
   count : length t.names ≤ 1024
 
-not-nil : (o : OpenElement) (os : List OpenElement) → o ∷ os ≡ [] → ⊥
-not-nil o os e = let z : suc (length os) ≡ 0 = ap (λ l. length l) e in omega arith
+not_nil : (o : OpenElement) (os : List OpenElement) → o ∷ os ≡ [] → ⊥
+not_nil o os e = let z : suc (length os) ≡ 0 = ap (λ l. length l) e in omega arith
 
 -- the text has ended
 ends : (es : List Element) (names : List (List ℕ)) (os : List OpenElement) (p : ℕ) → let s : State = record { elements = es; names = names; opens = os } in Sane s → os ≡ [] → 0 < length es → Told s p [] s
@@ -145,22 +145,22 @@ ends es names [] p h e some = record {
   few = h.few;
   count = h.names;
 }
-ends es names (o ∷ os) p h e some = absurd (not-nil o os e)
+ends es names (o ∷ os) p h e some = absurd (not_nil o os e)
 
 -- a byte of text
 lawful_over : (os : List OpenElement) (f : Content → Content) (t : Tail os) → ((c : Content) → Lawful c → Lawful (f c)) → LawfulTail os t → LawfulTail os (over os f t)
 lawful_over [] f t h l = h t l
 lawful_over (o ∷ os) f t h l = (h t.0 l.0, l.1)
 
-blank-byte : (os : List OpenElement) (b : ℕ) (t : Tail os) → (eqb (length os) 0 ≡ false) ⊎ (blank_byte b ≡ true) → Blank (outer os t) → Blank (outer os (over os (byte b) t))
-blank-byte [] b t (inl h) k = absurd (true≢false h)
-blank-byte [] b t (inr h) k = (h, k)
-blank-byte (o ∷ os) b t h k = k
+blank_byte_lem : (os : List OpenElement) (b : ℕ) (t : Tail os) → (eqb (length os) 0 ≡ false) ⊎ (blank_byte b ≡ true) → Blank (outer os t) → Blank (outer os (over os (byte b) t))
+blank_byte_lem [] b t (inl h) k = absurd (true≢false h)
+blank_byte_lem [] b t (inr h) k = (h, k)
+blank_byte_lem (o ∷ os) b t h k = k
 
-single-byte : (os : List OpenElement) (b : ℕ) (t : Tail os) → (eqb (length os) 0 ≡ false) ⊎ (blank_byte b ≡ true) → Single (outer os t) → Single (outer os (over os (byte b) t))
-single-byte [] b t (inl h) k = absurd (true≢false h)
-single-byte [] b t (inr h) k = (h, k)
-single-byte (o ∷ os) b t h k = k
+single_byte : (os : List OpenElement) (b : ℕ) (t : Tail os) → (eqb (length os) 0 ≡ false) ⊎ (blank_byte b ≡ true) → Single (outer os t) → Single (outer os (over os (byte b) t))
+single_byte [] b t (inl h) k = absurd (true≢false h)
+single_byte [] b t (inr h) k = (h, k)
+single_byte (o ∷ os) b t h k = k
 
 told_byte : (s : State) (p b : ℕ) (bs : List ℕ) (t : State) → text_byte b ≡ true → Calm s b → Told s (p + 1) bs t → Told s p (b ∷ bs) t
 told_byte s p b bs t tb calm h =
@@ -175,8 +175,8 @@ told_byte s p b bs t tb calm h =
       elements = h.elements ∙ (λ i. sym f i ++ numbered s.names (sym n i));
       names = h.names ∙ ap (named s.names) (sym n);
       shallow = subst Shallow (sym n) h.shallow;
-      blank = λ z. blank-byte os b h.tail calm (h.blank z);
-      single = λ z. single-byte os b h.tail calm (h.single z);
+      blank = λ z. blank_byte_lem os b h.tail calm (h.blank z);
+      single = λ z. single_byte os b h.tail calm (h.single z);
       few = h.few;
       count = h.count;
     }
@@ -187,7 +187,7 @@ abbrev begun : State → ℕ → List ℕ → Element
 begun s p name = record { start = p; «end» = 0; level = length s.opens; name = position s.names name }
 
 record Entered (s : State) (p : ℕ) (name : List ℕ) (e : Element) : Type 0 where
-  allowed-here : Allowed (length s.opens) (length s.elements) (position s.names name)
+  allowed_here : Allowed (length s.opens) (length s.elements) (position s.names name)
   same : e ≡ begun s p name
 
 entered_is : (s : State) (p : ℕ) (name : List ℕ) → Granted (Entered s p name) (enter (length s.opens) (length s.elements) s.names p name)
@@ -195,14 +195,14 @@ entered_is s p name =
     let opens : ℕ = length s.opens in
     let count : ℕ = length s.elements in
     let number : ℕ = position s.names name in
-    chain _ (allowed opens count number p) (λ _. Ok (begun s p name)) (allowed-granted opens count number p) (λ _ a. grant _ (record { allowed-here = a; same = refl }))
+    chain _ (allowed opens count number p) (λ _. Ok (begun s p name)) (allowed_granted opens count number p) (λ _ a. grant _ (record { allowed_here = a; same = refl }))
 
 entered_of : (s : State) (p : ℕ) (name : List ℕ) (e : Element) → enter (length s.opens) (length s.elements) s.names p name ≡ Ok e → Entered s p name e
 entered_of s p name e h = (subst (Granted (Entered s p name)) h (entered_is s p name)).granted
 
 -- the names stay few
-few-names : (names : List (List ℕ)) (name : List ℕ) → length names ≤ 1024 → position names name < 1024 → length (intern names name) ≤ 1024
-few-names names name h k =
+few_names : (names : List (List ℕ)) (name : List ℕ) → length names ≤ 1024 → position names name < 1024 → length (intern names name) ≤ 1024
+few_names names name h k =
     ⊎_elim (λ q. subst (λ l. length l ≤ 1024) (sym q.1) h)
     (λ q. subst (λ l. length l ≤ 1024) (sym q.1) (omega (arith, length-append names (name ∷ []), q.0)))
     (interned names name)
@@ -214,8 +214,8 @@ module _ (s : State) (p : ℕ) (name : List ℕ) (h : Sane s) (e : Element) (n :
       let lt : length s.elements < length (s.elements ++ e ∷ []) = omega arith in
       record {
         below = (lt, below_more (length s.elements) (length (s.elements ++ e ∷ [])) s.opens (omega arith) h.below);
-        few = omega (arith, n.allowed-here.few);
-        names = few-names s.names name h.names n.allowed-here.names;
+        few = omega (arith, n.allowed_here.few);
+        names = few_names s.names name h.names n.allowed_here.names;
       }
 
   sane_leaf : Sane (leaf s p name e)
@@ -223,8 +223,8 @@ module _ (s : State) (p : ℕ) (name : List ℕ) (h : Sane s) (e : Element) (n :
       let l = length-append s.elements (ended e (p + 1 + length name) ∷ []) in
       record {
         below = below_more (length s.elements) _ s.opens (omega arith) h.below;
-        few = omega (arith, n.allowed-here.few);
-        names = few-names s.names name h.names n.allowed-here.names;
+        few = omega (arith, n.allowed_here.few);
+        names = few_names s.names name h.names n.allowed_here.names;
       }
 
 -- only the first element stands outside
@@ -247,7 +247,7 @@ told_bare s p name rest t law sane en h =
     let n = over_nodes (bare name) p (spelling (empty name)) (node ∷ []) os h.tail pre in
     let f = over_fill (bare name) p (spelling (empty name)) (node ∷ []) es os h.tail pre in
     let len = length-append es (y ∷ []) in
-    let out = outer_element (length es) os (bare name) h.tail (λ c b. b) sane.below en.allowed-here.free (h.blank (omega arith)) in
+    let out = outer_element (length es) os (bare name) h.tail (λ c b. b) sane.below en.allowed_here.free (h.blank (omega arith)) in
     record {
       tail = over os (bare name) h.tail;
       lawful = lawful_over os (bare name) h.tail (λ c l. (law, l)) h.lawful;
@@ -258,7 +258,7 @@ told_bare s p name rest t law sane en h =
           ∙ append_assoc (fill es os q h.tail) (y ∷ []) (numbered (intern s.names name) (tail_nodes os q h.tail))
           ∙ (λ i. sym f i ++ numbered s.names (sym n i));
       names = h.names ∙ ap (named s.names) (sym n);
-      shallow = subst Shallow (sym n) (en.allowed-here.level, h.shallow);
+      shallow = subst Shallow (sym n) (en.allowed_here.level, h.shallow);
       blank = out.0;
       single = out.1;
       few = h.few;
@@ -303,7 +303,7 @@ told_full s p name rest t law sane en h =
     let f : fill es os p (over os (full name inner) more) ≡ fill es os q more =
     over_fill (full name inner) p spelt ns es os more pre ∙ ap (λ k. fill es os k more) z in
     let len = length-append es (e ∷ []) in
-    let out = outer_element (length es) os (full name inner) more (λ c b. b) sane.below en.allowed-here.free (h.blank (omega arith)) in
+    let out = outer_element (length es) os (full name inner) more (λ c b. b) sane.below en.allowed_here.free (h.blank (omega arith)) in
     record {
       tail = over os (full name inner) more;
       lawful = lawful_over os (full name inner) more (λ c l. (law, h.lawful.0, l)) h.lawful.1;
@@ -318,7 +318,7 @@ told_full s p name rest t law sane en h =
           ∙ append_assoc (fill es os q more) (y ∷ []) (numbered (intern s.names name) (is ++ tail_nodes os q more))
           ∙ (λ i. sym f i ++ numbered s.names (sym n i));
       names = h.names ∙ ap (named s.names) (sym n);
-      shallow = subst Shallow (sym n) (en.allowed-here.level, h.shallow);
+      shallow = subst Shallow (sym n) (en.allowed_here.level, h.shallow);
       blank = out.0;
       single = out.1;
       few = h.few;
@@ -356,7 +356,7 @@ module _ (t : State) (is-closed : t.opens ≡ []) (some : 0 < length t.elements)
   closes : (k : ℕ) → Contains k → (es : List Element) (names : List (List ℕ)) (os : List OpenElement) (p : ℕ) (n rest : List ℕ) → length rest ≤ k
       → let s : State = record { elements = es; names = names; opens = os } in Sane s → (u : State) → close s os p n ≡ Ok u → runs u (p + length (spelling (end n))) rest ≡ Ok t → Told s p (spelling (end n) ++ rest) t
   unfolding Contains
-  closes k ih es names [] p n rest l h u e r = absurd (ok-or-err u _ e)
+  closes k ih es names [] p n rest l h u e r = absurd (ok_or_err u _ e)
   closes k ih es names (o ∷ os) p n rest l h u e r =
       ⊎_elim
       (λ (q : bytes_eq o.name n ≡ true).
@@ -368,7 +368,7 @@ module _ (t : State) (is-closed : t.opens ≡ []) (some : 0 < length t.elements)
       subst (λ m. Told (record { elements = es; names = names; opens = o ∷ os }) p (spelling (end m) ++ rest) t) name
       (told_end es names o os p rest t
       (ih v (p + length (spelling (end o.name))) rest l sane ((λ i. runs (same i) (p + length (spelling (end (name i)))) rest) ∙ r))))
-      (λ (q : bytes_eq o.name n ≡ false). absurd (ok-or-err u _ (sym (cond-false _ _ _ q) ∙ e)))
+      (λ (q : bytes_eq o.name n ≡ false). absurd (ok_or_err u _ (sym (cond-false _ _ _ q) ∙ e)))
       (cases_Bool (bytes_eq o.name n))
 
   tags : (k : ℕ) → Contains k → (s : State) (p : ℕ) (i : Item) (rest : List ℕ) → Tag i → length rest ≤ k → Sane s → runs s p (spelling i ++ rest) ≡ Ok t → Told s p (spelling i ++ rest) t
@@ -403,11 +403,11 @@ module _ (t : State) (is-closed : t.opens ≡ []) (some : 0 < length t.elements)
   unfolding Contains
   texts k ih s p b bs e len h r =
       let tb : text_byte b ≡ true = ap not e in
-      let go : Calm s b → Told s p (b ∷ bs) t = λ calm. told_byte s p b bs t tb calm (ih s (p + 1) bs len h (sym (runs-byte s p b bs tb calm) ∙ r)) in
+      let go : Calm s b → Told s p (b ∷ bs) t = λ calm. told_byte s p b bs t tb calm (ih s (p + 1) bs len h (sym (runs_byte s p b bs tb calm) ∙ r)) in
       ⊎_elim
       (λ (o : eqb (length s.opens) 0 ≡ true).
       ⊎_elim (λ (w : blank_byte b ≡ true). go (inr w))
-      (λ (w : blank_byte b ≡ false). absurd (ok-or-err t _ (sym (runs-stray s p b bs tb o w) ∙ r))) (cases_Bool (blank_byte b)))
+      (λ (w : blank_byte b ≡ false). absurd (ok_or_err t _ (sym (runs_stray s p b bs tb o w) ∙ r))) (cases_Bool (blank_byte b)))
       (λ (o : eqb (length s.opens) 0 ≡ false). go (inl o))
       (cases_Bool (eqb (length s.opens) 0))
 
@@ -416,7 +416,7 @@ module _ (t : State) (is-closed : t.opens ≡ []) (some : 0 < length t.elements)
       ⊎_elim
       (λ (f : FrontTag s p (60 ∷ bs)).
       subst (λ l. Told s p l t) (sym f.spelled) (tags k ih s p f.item f.rest f.lawful (omega (arith, f.shorter)) h (ap (runs s p) (sym f.spelled) ∙ r)))
-      (λ f. absurd (ok-or-err t f.0 (sym (runs-fault s p 60 bs f.0 f.1) ∙ r)))
+      (λ f. absurd (ok_or_err t f.0 (sym (runs_fault s p 60 bs f.0 f.1) ∙ r)))
       (front s p bs)
 
   contains : (k : ℕ) → Contains k
@@ -434,16 +434,16 @@ module _ (t : State) (is-closed : t.opens ≡ []) (some : 0 < length t.elements)
 
 -- The whole text.
 
-closed-ok : (s : State) (os : List OpenElement) (b : Tree) → closed s os ≡ Ok b → (os ≡ []) × (tree_of_state s ≡ b)
-closed-ok s [] b e = (refl, cc)
-closed-ok s (o ∷ os) b e = absurd (ok-or-err b _ e)
+closed_ok : (s : State) (os : List OpenElement) (b : Tree) → closed s os ≡ Ok b → (os ≡ []) × (tree_of_state s ≡ b)
+closed_ok s [] b e = (refl, cc)
+closed_ok s (o ∷ os) b e = absurd (ok_or_err b _ e)
 
-finished-ok : (n : ℕ) (s : State) (b : Tree) → finished n s ≡ Ok b → (0 < length s.elements) × (s.opens ≡ []) × (tree_of_state s ≡ b)
-finished-ok n s b e =
-    ⊎_elim (λ (z : eqb (length s.elements) 0 ≡ true). absurd (ok-or-err b _ (sym (cond-true _ _ _ z) ∙ e)))
+finished_ok : (n : ℕ) (s : State) (b : Tree) → finished n s ≡ Ok b → (0 < length s.elements) × (s.opens ≡ []) × (tree_of_state s ≡ b)
+finished_ok n s b e =
+    ⊎_elim (λ (z : eqb (length s.elements) 0 ≡ true). absurd (ok_or_err b _ (sym (cond-true _ _ _ z) ∙ e)))
     (λ (z : eqb (length s.elements) 0 ≡ false).
     let ne = eqb-false _ _ z in
-    let c = closed-ok s s.opens b (sym (cond-false _ _ _ z) ∙ e) in
+    let c = closed_ok s s.opens b (sym (cond-false _ _ _ z) ∙ e) in
     let lt : 0 < length s.elements = omega arith in
     (lt, c.0, c.1))
     (cases_Bool (eqb (length s.elements) 0))
@@ -454,17 +454,17 @@ sound bs b e =
     ⊎_elim (λ (z : leb (length bs) 16777216 ≡ true).
     let x = then_ok (runs initial 0 bs) (finished (length bs)) b (sym (book_is bs (leb-true _ _ z)) ∙ e) in
     let t : State = x.0 in
-    let f = finished-ok (length bs) t b x.2 in
+    let f = finished_ok (length bs) t b x.2 in
     let s : Sane initial = record { below = tt; few = omega arith; names = omega arith } in
     let h : Told initial 0 bs t = contains t f.1 f.0 (length bs) initial 0 bs (omega arith) s x.1 in
     let ns : List Node = nodes_at 0 0 h.tail in
     let count : length (numbered [] ns) ≤ 65535 = subst (λ l. length l ≤ 65535) h.elements h.few in
-    let few : length ns ≤ 65535 = omega (arith, numbered-length [] ns) in
+    let few : length ns ≤ 65535 = omega (arith, numbered_length [] ns) in
     let names : length (named [] ns) ≤ 1024 = subst (λ l. length l ≤ 1024) h.names h.count in (
       ns,
       record { row = h.tail; lawful = h.lawful; single = h.single refl; spelled = h.text; elements = refl },
       record { short = leb-true _ _ z; shallow = h.shallow; few = few; names = names },
       sym f.2 ∙ (λ i. record { elements = h.elements i; names = h.names i }),
     ))
-    (λ (z : leb (length bs) 16777216 ≡ false). absurd (ok-or-err b _ (sym (too_long bs _ (cond-false _ _ _ z)) ∙ e)))
+    (λ (z : leb (length bs) 16777216 ≡ false). absurd (ok_or_err b _ (sym (too_long bs _ (cond-false _ _ _ z)) ∙ e)))
     (cases_Bool (leb (length bs) 16777216))

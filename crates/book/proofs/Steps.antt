@@ -26,14 +26,14 @@ state_path : {a b : State} → a.elements ≡ b.elements → a.names ≡ b.names
 state_path p q r = λ i. record { elements = p i; names = q i; opens = r i }
 
 module _ (r : Reader) where
-  pub opens-count : vec_len r.opens ≡ length (state_of r).opens
-  opens-count = r.opens.ok.0 ∙ sym (length-reverse (vec_items r.opens)) ∙ sym (length-map (reverse (vec_items r.opens)) open_of)
+  pub opens_count : vec_len r.opens ≡ length (state_of r).opens
+  opens_count = r.opens.ok.0 ∙ sym (length-reverse (vec_items r.opens)) ∙ sym (length-map (reverse (vec_items r.opens)) open_of)
 
-  pub elements-count : vec_len r.elements ≡ length (vec_items r.elements)
-  elements-count = r.elements.ok.0
+  pub elements_count : vec_len r.elements ≡ length (vec_items r.elements)
+  elements_count = r.elements.ok.0
 
   pub entered_is : (m n p : ℕ) (name : List ℕ) → m ≡ vec_len r.opens → n ≡ vec_len r.elements → enter m n (bytes_of (vec_items r.names.list)) p name ≡ entered (state_of r) p name
-  entered_is m n p name x y = λ i. enter ((x ∙ opens-count) i) ((y ∙ elements-count) i) (bytes_of (vec_items r.names.list)) p name
+  entered_is m n p name x y = λ i. enter ((x ∙ opens_count) i) ((y ∙ elements_count) i) (bytes_of (vec_items r.names.list)) p name
 
   push_open : (os : List Open) (o : Open) → map open_of (reverse (os ++ o ∷ [])) ≡ open_of o ∷ map open_of (reverse os)
   push_open os o = ap (map open_of) (reverse-append os (o ∷ []))
@@ -49,11 +49,11 @@ module _ (r : Reader) where
 
   -- a text run
   pub inside : (p : ℕ) (bs : List ℕ) → eqb (vec_len r.opens) 0 ≡ false → between (state_of r) p bs ≡ Ok (state_of r)
-  inside p bs h = cond-false _ _ _ (sym (ap (λ n. eqb n 0) opens-count) ∙ h)
+  inside p bs h = cond-false _ _ _ (sym (ap (λ n. eqb n 0) opens_count) ∙ h)
 
   pub outside : (p : ℕ) (bs : List ℕ) (x : Result (Unit {0}) Fault) → eqb (vec_len r.opens) 0 ≡ true → x ≡ blanks_only p bs
       → between (state_of r) p bs ≡ and_then x (λ _. Ok (state_of r))
-  outside p bs x h e = cond-true _ _ _ (sym (ap (λ n. eqb n 0) opens-count) ∙ h) ∙ ap (λ y. and_then y (λ _. Ok (state_of r))) (sym e)
+  outside p bs x h e = cond-true _ _ _ (sym (ap (λ n. eqb n 0) opens_count) ∙ h) ∙ ap (λ y. and_then y (λ _. Ok (state_of r))) (sym e)
 
   -- an end tag, where o is the innermost open element
   module _ (os : List Open) (o : Open) (last : vec_items r.opens ≡ os ++ o ∷ []) (p : ℕ) (name : List ℕ) where
@@ -71,13 +71,13 @@ module _ (r : Reader) where
 
   -- the end of the text
   some : eqb (vec_len r.elements) 0 ≡ false → eqb (length (vec_items r.elements)) 0 ≡ false
-  some h = sym (ap (λ n. eqb n 0) elements-count) ∙ h
+  some h = sym (ap (λ n. eqb n 0) elements_count) ∙ h
 
-  pub finished-closed : (n : ℕ) → eqb (vec_len r.elements) 0 ≡ false → vec_items r.opens ≡ [] → finished n (state_of r) ≡ Ok (tree_of_state (state_of r))
-  finished-closed n h e = cond-false _ _ _ (some h) ∙ ap (λ l. closed (state_of r) (map open_of (reverse l))) e
+  pub finished_closed : (n : ℕ) → eqb (vec_len r.elements) 0 ≡ false → vec_items r.opens ≡ [] → finished n (state_of r) ≡ Ok (tree_of_state (state_of r))
+  finished_closed n h e = cond-false _ _ _ (some h) ∙ ap (λ l. closed (state_of r) (map open_of (reverse l))) e
 
-  pub finished-unclosed : (n : ℕ) (o : Open) (xs : List Open) → xs ≡ vec_items r.opens → eqb (vec_len r.elements) 0 ≡ false → 0 < length xs → o ≡ get_or xs (length xs - 1) o → finished n (state_of r) ≡ Err (fault Unclosed o.element.start)
-  finished-unclosed n o xs same h some-open at =
+  pub finished_unclosed : (n : ℕ) (o : Open) (xs : List Open) → xs ≡ vec_items r.opens → eqb (vec_len r.elements) 0 ≡ false → 0 < length xs → o ≡ get_or xs (length xs - 1) o → finished n (state_of r) ≡ Err (fault Unclosed o.element.start)
+  finished_unclosed n o xs same h some-open at =
       let i : ℕ = length xs - 1 in
       let lt : i < length xs = omega arith in
       let whole : xs ≡ take i xs ++ o ∷ [] = sym (take_all (i + 1) xs (omega arith)) ∙ take_more xs i o lt ∙ ap (λ x. take i xs ++ x ∷ []) (sym at) in

@@ -11,8 +11,8 @@ use Rattle.tree.specs.Tree.{region_of, LawfulTree}
 use Rattle.lexer.specs.Item.{Item.start, Item.end, Item.empty, spelling}
 use Rattle.book.specs.Document.{Content, Content.none, Content.byte, Content.bare, Content.full, spell, Lawful, Node, nodes_at, Document, intern, numbered, named, indexed, Shallow, Within}
 use Rattle.book.specs.Promises.{TreesAreLawful}
-use Rattle.book.proofs.Forests.{region_of_node, pairs_at, weight, count_in, Span, Ordered, Forest, row_forest, Around, single-around}
-use Rattle.book.proofs.Numbering.{named-all, named-different, uses}
+use Rattle.book.proofs.Forests.{region_of_node, pairs_at, weight, count_in, Span, Ordered, Forest, row_forest, Around, single_around}
+use Rattle.book.proofs.Numbering.{named_all, named_different, uses}
 use Rattle.book.proofs.Sound.{sound}
 
 -- Counting by places.
@@ -31,19 +31,19 @@ count_list (u ∷ us) v d =
 
 -- The regions.
 
-shallow-at : (ns : List Node) (d : Node) (i : ℕ) → Shallow ns → i < length ns → (get_or ns i d).level ≤ 63
-shallow-at [] d i h l = absurd (omega arith)
-shallow-at (n ∷ ns) d zero h l = h.0
-shallow-at (n ∷ ns) d (suc i) h l = shallow-at ns d i h.1 (omega arith)
+shallow_at : (ns : List Node) (d : Node) (i : ℕ) → Shallow ns → i < length ns → (get_or ns i d).level ≤ 63
+shallow_at [] d i h l = absurd (omega arith)
+shallow_at (n ∷ ns) d zero h l = h.0
+shallow_at (n ∷ ns) d (suc i) h l = shallow_at ns d i h.1 (omega arith)
 
-around-at : (ns : List Node) (d : Node) (i : ℕ) → Around ns → 0 < i → i < length ns → Contains (region_of_node (get_or ns 0 d)) (region_of_node (get_or ns i d))
-around-at [] d i h a b = absurd h
-around-at (n ∷ ns) d zero h a b = absurd (omega arith)
-around-at (n ∷ ns) d (suc i) h a b = All-get_or (λ v. Contains (region_of_node n) (region_of_node v)) ns i d (omega arith) h
+around_at : (ns : List Node) (d : Node) (i : ℕ) → Around ns → 0 < i → i < length ns → Contains (region_of_node (get_or ns 0 d)) (region_of_node (get_or ns i d))
+around_at [] d i h a b = absurd h
+around_at (n ∷ ns) d zero h a b = absurd (omega arith)
+around_at (n ∷ ns) d (suc i) h a b = All-get_or (λ v. Contains (region_of_node n) (region_of_node v)) ns i d (omega arith) h
 
-around-some : (ns : List Node) → Around ns → 1 ≤ length ns
-around-some [] h = absurd h
-around-some (n ∷ ns) h = omega arith
+around_some : (ns : List Node) → Around ns → 1 ≤ length ns
+around_some [] h = absurd h
+around_some (n ∷ ns) h = omega arith
 
 module _ (ns : List Node) (q : ℕ) (f : Forest 0 0 q ns) (a : Around ns) (s : Shallow ns) (few : length ns ≤ 65535) (short : q ≤ 16777216) where
   r : ℕ → Region
@@ -52,9 +52,9 @@ module _ (ns : List Node) (q : ℕ) (f : Forest 0 0 q ns) (a : Around ns) (s : S
   book_by : BookOf (length ns) r
   unfolding r nobody
   book_by = record {
-    some = around-some ns a;
+    some = around_some ns a;
     few = few;
-    each = λ i h. let p = All-get_or (Span 0 q) ns i nobody h f.span in (p.1, omega (arith, p.2), shallow-at ns nobody i s h);
+    each = λ i h. let p = All-get_or (Span 0 q) ns i nobody h f.span in (p.1, omega (arith, p.2), shallow_at ns nobody i s h);
     rising = λ i j h k. (pairs_at Ordered ns nobody i j f.pairs h k).0;
     apart = λ i j h k ne.
         ⊎_elim (λ (e : i ≡ j). absurd (ne e))
@@ -67,7 +67,7 @@ module _ (ns : List Node) (q : ℕ) (f : Forest 0 0 q ns) (a : Around ns) (s : S
         let e : v.level ≡ 0 + count_in ns v = All-get_or (λ v. v.level ≡ 0 + count_in ns v) ns i nobody h f.levels in
         let z : 0 + count_in ns v ≡ count_in ns v = omega arith in
         e ∙ z ∙ count_list ns v nobody;
-    first = λ i h k. around-at ns nobody i a h k;
+    first = λ i h k. around_at ns nobody i a h k;
   }
 
   as_list : LawfulBook (map region_of_node ns)
@@ -82,14 +82,14 @@ same_regions names (n ∷ ns) = ap (λ l. region_of_node n ∷ l) (same_regions 
 
 -- The names.
 
-row-names : (c : Content) (p level : ℕ) → Lawful c → Every (λ n. LawfulName n.name) (nodes_at p level c)
-row-names none p level l = tt
-row-names (byte b c) p level l = row-names c (p + 1) level l.1
-row-names (bare name c) p level l = (l.0, row-names c (p + length (spelling (empty name))) level l.1)
-row-names (full name inner c) p level l =
+row_names : (c : Content) (p level : ℕ) → Lawful c → Every (λ n. LawfulName n.name) (nodes_at p level c)
+row_names none p level l = tt
+row_names (byte b c) p level l = row_names c (p + 1) level l.1
+row_names (bare name c) p level l = (l.0, row_names c (p + length (spelling (empty name))) level l.1)
+row_names (full name inner c) p level l =
     let from : ℕ = p + length (spelling (start name)) in
     let k : ℕ = from + length (spell inner) + length (spelling (end name)) in
-    (l.0, All-append (λ n. LawfulName n.name) (nodes_at from (suc level) inner) (nodes_at k level c) (row-names inner from (suc level) l.1) (row-names c k level l.2))
+    (l.0, All-append (λ n. LawfulName n.name) (nodes_at from (suc level) inner) (nodes_at k level c) (row_names inner from (suc level) l.1) (row_names c k level l.2))
 
 -- The tree of a document.
 module _ (text : List ℕ) (ns : List Node) (d : Document text ns) (w : Within text ns) where
@@ -99,19 +99,19 @@ module _ (text : List ℕ) (ns : List Node) (d : Document text ns) (w : Within t
       let f : Forest 0 0 (length text) (nodes_at 0 0 d.row) = subst (λ q. Forest 0 0 q (nodes_at 0 0 d.row)) (z ∙ ap (λ l. length l) (sym d.spelled)) (row_forest d.row 0 0) in
       subst (Forest 0 0 (length text)) (sym d.elements) f
 
-  pub lawful-tree : LawfulTree (indexed ns)
-  lawful-tree =
-      let a : Around ns = subst Around (sym d.elements) (single-around d.row 0 d.single) in
-      let l : Every (λ (n : Node). LawfulName n.name) ns = subst (Every (λ (n : Node). LawfulName n.name)) (sym d.elements) (row-names d.row 0 0 d.lawful) in
+  pub lawful_tree : LawfulTree (indexed ns)
+  lawful_tree =
+      let a : Around ns = subst Around (sym d.elements) (single_around d.row 0 d.single) in
+      let l : Every (λ (n : Node). LawfulName n.name) ns = subst (Every (λ (n : Node). LawfulName n.name)) (sym d.elements) (row_names d.row 0 0 d.lawful) in
       record {
         regions = subst LawfulBook (sym (same_regions [] ns)) (as_list ns (length text) forest a w.shallow w.few w.short);
         few = w.names;
-        lawful = λ k h. All-get_or LawfulName (named [] ns) k [] h (named-all LawfulName [] ns tt l);
-        different = named-different [] ns (λ j k h i e. absurd (omega arith));
+        lawful = λ k h. All-get_or LawfulName (named [] ns) k [] h (named_all LawfulName [] ns tt l);
+        different = named_different [] ns (λ j k h i e. absurd (omega arith));
         used = uses [] ns;
       }
 
 pub trees_are_lawful : TreesAreLawful
 trees_are_lawful text t e =
     let s = sound text t e in
-    subst LawfulTree (sym s.3) (lawful-tree text s.0 s.1 s.2)
+    subst LawfulTree (sym s.3) (lawful_tree text s.0 s.1 s.2)

@@ -54,8 +54,8 @@ module _ (bs : List ℕ) (law : LawfulSheet bs) (heads : List ℕ) (i : ℕ) (in
   here : chains bs heads i ≡ map region_of (chain_from bs (get_or heads i 0))
   here = cond-true _ _ _ (lt-ltb i 16 inside)
 
-  first-there : get_or heads i 0 < element_count bs → first (chains bs heads i) ≡ shown (element_in bs (get_or heads i 0))
-  first-there more =
+  first_there : get_or heads i 0 < element_count bs → first (chains bs heads i) ≡ shown (element_in bs (get_or heads i 0))
+  first_there more =
       let k = get_or heads i 0 in
       ap first (here ∙ ap (map region_of) (chain_step bs law k more)) ∙ sym (ap shown (cond-true _ _ _ (lt-ltb k (element_count bs) more)))
 
@@ -65,10 +65,10 @@ module _ (bs : List ℕ) (law : LawfulSheet bs) (heads : List ℕ) (i : ℕ) (in
       ap first (here ∙ ap (map region_of) (ended bs _ k none)) ∙ sym (ap shown (cond-false (ltb k (element_count bs)) _ _ (le-ltb k (element_count bs) none)))
 
   pub first_told : first (chains bs heads i) ≡ shown (element_in bs (get_or heads i 0))
-  first_told = ⊎_elim first-there first_gone (cases_lt (get_or heads i 0) (element_count bs))
+  first_told = ⊎_elim first_there first_gone (cases_lt (get_or heads i 0) (element_count bs))
 
-  next-there : get_or heads i 0 < element_count bs → map region_of (chain_from bs (next_in bs (get_or heads i 0))) ≡ rest (chains bs heads i)
-  next-there more =
+  next_there : get_or heads i 0 < element_count bs → map region_of (chain_from bs (next_in bs (get_or heads i 0))) ≡ rest (chains bs heads i)
+  next_there more =
       let k = get_or heads i 0 in
       ap (λ (m : ℕ). map region_of (chain_from bs m)) (cond-true _ _ _ (lt-ltb k (element_count bs) more)) ∙ sym (ap rest (here ∙ ap (map region_of) (chain_step bs law k more)))
 
@@ -87,7 +87,7 @@ module _ (bs : List ℕ) (law : LawfulSheet bs) (heads : List ℕ) (i : ℕ) (in
           let in' : i < length heads = omega arith in
           cond-true _ _ _ (lt-ltb i 16 inside)
           ∙ ap (λ (m : ℕ). map region_of (chain_from bs m)) (get_or-set_same heads i v 0 in' ∙ e)
-          ∙ ⊎_elim next-there next_gone (cases_lt (get_or heads i 0) (element_count bs))
+          ∙ ⊎_elim next_there next_gone (cases_lt (get_or heads i 0) (element_count bs))
 
       go : (j : ℕ) (b : Bool) → eqb j i ≡ b → chains bs (set heads i v) j ≡ cond b (rest (chains bs heads j)) (chains bs heads j)
       go j true t = let k : j ≡ i = eqb-true j i t in rw k same

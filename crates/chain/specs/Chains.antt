@@ -16,7 +16,7 @@ use Rattle.stream.specs.declared.region.Region.{Region}
 use Rattle.stream.specs.Sets as sets
 use Rattle.stream.specs.Sets.{Laws}
 use Rattle.stream.specs.Narrowing.{kept_part}
-use Rattle.stream.proofs.Parts.{map-part}
+use Rattle.stream.proofs.Parts.{map_part}
 
 -- the region of an element
 abbrev pub region_of : Element → Region
@@ -49,7 +49,7 @@ chain_part : (bs : List ℕ) (k : ℕ) → Sublistᴰ (map region_of (chain_from
 chain_part bs k =
     let z : 0 + k ≡ k = omega arith in
     let numbers = subst (λ (m : ℕ). Sublistᴰ (range_with_len m (element_count bs - k)) (range_with_len 0 (element_count bs))) z (counting_part k 0 (element_count bs)) in
-    map-part region_of (Sublistᴰ.trans (kept_part (λ e. nat_eq e.name (element_at bs k).name) _) (map-part (element_at bs) numbers))
+    map_part region_of (Sublistᴰ.trans (kept_part (λ e. nat_eq e.name (element_at bs k).name) _) (map_part (element_at bs) numbers))
 
 map-map : (es : List Element) → map sets.region_of (map region_of es) ≡ map tree.region_of es
 map-map [] = refl

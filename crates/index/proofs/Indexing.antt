@@ -29,8 +29,8 @@ module _ (text old new : List ℕ) (t : Tree) (g : Grants text t) where
       → r ≡ cond (ltb (length old) (length (sheet_of t))) (Err (fault SheetWontFit (length (sheet_of t)))) (Ok (length (sheet_of t)))
   told r e = e ∙ lawful_trees_are_encoded t g.lawful (length old)
 
-  pub indexed-written : (n : ℕ) → Ok n ≡ encodes t.elements t.names (length old) → new ≡ written t.elements t.names (Ok n) old → Indexed text old new (Ok n)
-  indexed-written n e w =
+  pub indexed_written : (n : ℕ) → Ok n ≡ encodes t.elements t.names (length old) → new ≡ written t.elements t.names (Ok n) old → Indexed text old new (Ok n)
+  indexed_written n e w =
       let back = sheet_reads_back t g.lawful in
       let size : n ≡ length (sheet_of t) =
       ⊎_elim (λ (l : ltb (length old) (length (sheet_of t)) ≡ true). absurd (ok_no_err n _ (told (Ok n) e ∙ cond-true _ _ _ l)))
@@ -47,9 +47,9 @@ module _ (text old new : List ℕ) (t : Tree) (g : Grants text t) where
         only = λ bs b l s. sheet_of_its_tree bs b l ∙ ap sheet_of s;
       }
 
-  pub indexed-refused : (f : Fault) → Err f ≡ encodes t.elements t.names (length old) → new ≡ written t.elements t.names (Err f) old
+  pub indexed_refused : (f : Fault) → Err f ≡ encodes t.elements t.names (length old) → new ≡ written t.elements t.names (Err f) old
       → Indexed text old new (Err (Refused f))
-  indexed-refused f e w =
+  indexed_refused f e w =
       ⊎_elim
       (λ (l : ltb (length old) (length (sheet_of t)) ≡ true).
       (w, inr (record { tree = t; grants = g; longer = ltb-true _ _ l; refused = err_same f _ (told (Err f) e ∙ cond-true _ _ _ l) })))

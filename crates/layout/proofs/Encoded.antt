@@ -7,33 +7,33 @@ use Rattle.markup.specs.Name.{LawfulName}
 use Rattle.tree.specs.declared.element.Element.{Element}
 use Rattle.tree.specs.Region.{Region, Fits}
 use Rattle.tree.specs.Tree.{LawfulTree, region_of}
-use Rattle.tree.proofs.Uses.{name_in, UsedBy, uses_by_places, uses_below, used-few, used_found}
+use Rattle.tree.proofs.Uses.{name_in, UsedBy, uses_by_places, uses_below, used_few, used_found}
 use Rattle.layout.specs.declared.record.NameRecord.{NameRecord}
 use Rattle.layout.specs.Layout.{element_count, name_count, element_at, region_at, name_at, name_text, elements_of, names_of}
 use Rattle.layout.specs.Lawful.{RightField, FirstFrom, FirstNamed, RightNumbers, RightName, used, names_end, LawfulSheet}
 use Rattle.layout.specs.Encoding.{blank, seek, joint, encoded}
 use Rattle.layout.specs.Laws.{SheetReadsBack}
 use Rattle.layout.proofs.Tables.{length-encoded, length_joint_halves, length_joint_take, length_joint_bounds}
-use Rattle.layout.proofs.Firsts.{seek-first, first_same}
+use Rattle.layout.proofs.Firsts.{seek_first, first_same}
 use Rattle.layout.proofs.Readback.{Small, head, shown_count, shown_names, shown_bytes, shown_element, shown_next, shown_name, shown_text}
 use Rattle.layout.proofs.Regions.{fits_of_book}
 
 -- What a sheet has room for.
 module _ (es : List Element) (ts : List (List ℕ)) (law : LawfulTree (record { elements = es; names = ts })) where
-  pub some-elements : 1 ≤ length es
-  some-elements = omega (arith, length-map es region_of, law.regions.some)
+  pub some_elements : 1 ≤ length es
+  some_elements = omega (arith, length-map es region_of, law.regions.some)
 
-  pub few-elements : length es ≤ 65535
-  few-elements = omega (arith, length-map es region_of, law.regions.few)
+  pub few_elements : length es ≤ 65535
+  few_elements = omega (arith, length-map es region_of, law.regions.few)
 
-  pub named-below : (k : ℕ) → k < length es → (get_or es k blank).name < length ts
-  named-below k h = uses_below es 0 (length ts) law.used k h
+  pub named_below : (k : ℕ) → k < length es → (get_or es k blank).name < length ts
+  named_below k h = uses_below es 0 (length ts) law.used k h
 
-  pub names-short : (j : ℕ) → j < length ts → length (get_or ts j []) ≤ 32
-  names-short j h = (law.lawful j h).short
+  pub names_short : (j : ℕ) → j < length ts → length (get_or ts j []) ≤ 32
+  names_short j h = (law.lawful j h).short
 
-  some-names : 1 ≤ length ts
-  some-names = omega (arith, named-below 0 some-elements)
+  some_names : 1 ≤ length ts
+  some_names = omega (arith, named_below 0 some_elements)
 
   bounds : (k : ℕ) → k < length es
       → ((get_or es k blank).start < (get_or es k blank).«end») × ((get_or es k blank).«end» ≤ 16777215) × ((get_or es k blank).level ≤ 63)
@@ -44,16 +44,16 @@ module _ (es : List Element) (ts : List (List ℕ)) (law : LawfulTree (record { 
 
   small : Small es ts
   small = record {
-    elements = few-elements;
+    elements = few_elements;
     names = law.few;
     bytes = omega (arith, (length_joint_bounds ts (λ j h. ((law.lawful j h).some, (law.lawful j h).short))).1, law.few);
     each = λ k h.
         let b = bounds k h in
-        let n = named-below k h in
+        let n = named_below k h in
         let f = law.few in
         (omega arith, omega arith, omega arith, omega arith);
-    found = λ x m h. omega (arith, (seek-first es x m h).within, few-elements);
-    short = names-short;
+    found = λ x m h. omega (arith, (seek_first es x m h).within, few_elements);
+    short = names_short;
   }
 
   -- The elements.
@@ -68,10 +68,10 @@ module _ (es : List Element) (ts : List (List ℕ)) (law : LawfulTree (record { 
   region_fits = fits_of_book (encoded es ts) es (length es) refl (shown_element es ts small) law.regions
 
   -- what is sought among the elements is found in the sheet
-  first-from : (x m : ℕ) → m ≤ length es → FirstNamed (encoded es ts) x m (seek x (drop m es) m)
-  first-from x m h =
+  first_from : (x m : ℕ) → m ≤ length es → FirstNamed (encoded es ts) x m (seek x (drop m es) m)
+  first_from x m h =
       subst (λ (n : ℕ). FirstFrom (λ i. (element_at (encoded es ts) i).name) n x m (seek x (drop m es) m)) (sym count)
-      (first_same (λ i. (get_or es i blank).name) (λ i. (element_at (encoded es ts) i).name) (length es) x m (seek x (drop m es) m) (λ k l. sym (name_of k l)) (seek-first es x m h))
+      (first_same (λ i. (get_or es i blank).name) (λ i. (element_at (encoded es ts) i).name) (length es) x m (seek x (drop m es) m) (λ k l. sym (name_of k l)) (seek_first es x m h))
 
   used_by : UsedBy (name_in es) (length es) (used (encoded es ts))
   used_by = (refl, λ k h. ap (λ (n : ℕ). max (used (encoded es ts) k) (n + 1)) (name_of k h))
@@ -84,9 +84,9 @@ module _ (es : List Element) (ts : List (List ℕ)) (law : LawfulTree (record { 
       let n = name_of k h in
       let x = shown_next es ts small k h in
       record {
-        named = omega (arith, named-below k h, shown_names es ts small);
+        named = omega (arith, named_below k h, shown_names es ts small);
         fresh = omega (arith, fresh.0 k h);
-        next = rw (n, x) (first-from (get_or es k blank).name (k + 1) (omega arith));
+        next = rw (n, x) (first_from (get_or es k blank).name (k + 1) (omega arith));
       }
 
   -- The names.
@@ -100,7 +100,7 @@ module _ (es : List Element) (ts : List (List ℕ)) (law : LawfulTree (record { 
 
   has : (j : ℕ) → j < length ts → seek j es 0 < element_count (encoded es ts)
   has j h =
-      let f = first-from j 0 (omega arith) in
+      let f = first_from j 0 (omega arith) in
       let r = used_found (name_in es) (length es) (used (encoded es ts)) used_by fresh.0 (length es) j (omega arith) (omega (arith, fresh.1)) in
       ⊎_elim (λ (a : seek j es 0 < element_count (encoded es ts)). a)
       (λ (a : element_count (encoded es ts) ≤ seek j es 0).
@@ -119,7 +119,7 @@ module _ (es : List Element) (ts : List (List ℕ)) (law : LawfulTree (record { 
         within = omega (arith, length_joint_take ts j h, length_joint_halves ts (suc j), shown_bytes es ts small);
         lawful = subst LawfulName (sym t) (law.lawful j h);
         has = omega (arith, has j h);
-        first = subst (FirstNamed (encoded es ts) j 0) (sym f) (first-from j 0 (omega arith));
+        first = subst (FirstNamed (encoded es ts) j 0) (sym f) (first_from j 0 (omega arith));
         different = λ i g e. law.different i j g h (sym (shown_text es ts small i (omega arith)) ∙ (e ∙ t));
       }
 
@@ -127,12 +127,12 @@ module _ (es : List Element) (ts : List (List ℕ)) (law : LawfulTree (record { 
 
   field : (i : ℕ) → i < 8 → RightField (encoded es ts) i
   field zero h = (head es ts small).0
-  field (suc zero) h = (omega (arith, count, some-elements), omega (arith, count, few-elements))
+  field (suc zero) h = (omega (arith, count, some_elements), omega (arith, count, few_elements))
   field (suc (suc zero)) h =
       let n = shown_names es ts small in (
-        omega (arith, some-names),
+        omega (arith, some_names),
         omega (arith, law.few),
-        omega (arith, count, used-few (name_in es) (length es) (used (encoded es ts)) used_by fresh.0 (length es) (omega arith), fresh.1),
+        omega (arith, count, used_few (name_in es) (length es) (used (encoded es ts)) used_by fresh.0 (length es) (omega arith), fresh.1),
       )
   field (suc (suc (suc zero))) h = (head es ts small).3
   field (suc (suc (suc (suc zero)))) h = omega (arith, (head es ts small).4, count)
@@ -144,8 +144,8 @@ module _ (es : List Element) (ts : List (List ℕ)) (law : LawfulTree (record { 
       (omega arith, omega arith)
   field (suc (suc (suc (suc (suc (suc (suc i))))))) h = omega (arith, (head es ts small).7, count, shown_names es ts small, shown_bytes es ts small)
 
-  pub encoded-lawful : LawfulSheet (encoded es ts)
-  encoded-lawful = record {
+  pub encoded_lawful : LawfulSheet (encoded es ts)
+  encoded_lawful = record {
     header = field;
     size = omega (arith, length-encoded es ts, count, shown_names es ts small, shown_bytes es ts small);
     elements = λ k h. let l : k < length es = omega (arith, count) in record { region = region_fits k l; numbers = numbers k l };
@@ -156,18 +156,18 @@ module _ (es : List Element) (ts : List (List ℕ)) (law : LawfulTree (record { 
         ∙ (ap (λ (us : List (List ℕ)). length (joint us)) (take_all (length ts) ts (omega arith)) ∙ sym (shown_bytes es ts small)));
   }
 
-  encoded-elements : elements_of (encoded es ts) ≡ es
-  encoded-elements =
+  encoded_elements : elements_of (encoded es ts) ≡ es
+  encoded_elements =
       sym (fill_by_all (element_at (encoded es ts)) es (element_count (encoded es ts)) blank (sym count)
       (λ k h. sym (shown_element es ts small k (omega (arith, count)))))
 
-  encoded-names : names_of (encoded es ts) ≡ ts
-  encoded-names =
+  encoded_names : names_of (encoded es ts) ≡ ts
+  encoded_names =
       let n = shown_names es ts small in
       sym (fill_by_all (name_text (encoded es ts)) ts (name_count (encoded es ts)) [] (sym n) (λ j h. sym (shown_text es ts small j (omega arith))))
 
 pub sheet_reads_back : SheetReadsBack
 sheet_reads_back t law = (
-  encoded-lawful t.elements t.names law,
-  λ i. record { elements = encoded-elements t.elements t.names law i; names = encoded-names t.elements t.names law i },
+  encoded_lawful t.elements t.names law,
+  λ i. record { elements = encoded_elements t.elements t.names law i; names = encoded_names t.elements t.names law i },
 )

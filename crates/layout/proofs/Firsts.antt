@@ -29,8 +29,8 @@ first_same f g n x m i e a = record {
 
 -- From the back.
 
-pub first-none : (f : ℕ → ℕ) (n x : ℕ) → FirstFrom f n x n n
-first-none f n x = record
+pub first_none : (f : ℕ → ℕ) (n x : ℕ) → FirstFrom f n x n n
+first_none f n x = record
     { from = omega arith; within = omega arith; before = λ j p q. absurd (omega arith); here = λ h. absurd (omega arith) }
 
 pub first_yes : (f : ℕ → ℕ) (n x m : ℕ) → m < n → f m ≡ x → FirstFrom f n x m m
@@ -52,7 +52,7 @@ seek_by : (es : List Element) (x d m : ℕ) → m + d ≡ length es → FirstFro
 seek_by es x zero m h =
     let e : m ≡ length es = omega arith in
     let p = drop_all m es (omega arith) in
-    rw p (subst (λ (n : ℕ). FirstFrom (λ i. (get_or es i blank).name) n x m m) e (first-none (λ i. (get_or es i blank).name) m x))
+    rw p (subst (λ (n : ℕ). FirstFrom (λ i. (get_or es i blank).name) n x m m) e (first_none (λ i. (get_or es i blank).name) m x))
 seek_by es x (suc d) m h =
     let f : ℕ → ℕ = λ i. (get_or es i blank).name in
     let r = seek x (drop (m + 1) es) (m + 1) in
@@ -67,5 +67,5 @@ seek_by es x (suc d) m h =
     rw q (first_no f (length es) x m r (eqb-false _ _ b) i))
     (cases_Bool (eqb (f m) x))
 
-pub seek-first : (es : List Element) (x m : ℕ) → m ≤ length es → FirstFrom (λ i. (get_or es i blank).name) (length es) x m (seek x (drop m es) m)
-seek-first es x m h = seek_by es x (length es - m) m (omega arith)
+pub seek_first : (es : List Element) (x m : ℕ) → m ≤ length es → FirstFrom (λ i. (get_or es i blank).name) (length es) x m (seek x (drop m es) m)
+seek_first es x m h = seek_by es x (length es - m) m (omega arith)

@@ -9,24 +9,24 @@ use Rattle.layout.proofs.Digits.{value16, value32, u16_drop, u32_drop}
 use Rattle.layout.proofs.Tables.{length-header, length-elements, length-names, length_joint_halves, drop-elements, drop-names, drop-joint}
 
 -- the records' own numbers
-read-element : (e : Element) (v : ℕ) (rest : List ℕ) → e.start < 4294967296 → e.«end» < 4294967296 → e.level < 65536 → e.name < 65536 → v < 4294967296
+read_element : (e : Element) (v : ℕ) (rest : List ℕ) → e.start < 4294967296 → e.«end» < 4294967296 → e.level < 65536 → e.name < 65536 → v < 4294967296
     → (u32_at (element_bytes e v ++ rest) 0 ≡ e.start) × (u32_at (element_bytes e v ++ rest) 4 ≡ e.«end») × (u16_at (element_bytes e v ++ rest) 8 ≡ e.level)
     × (u16_at (element_bytes e v ++ rest) 10 ≡ e.name) × (u32_at (element_bytes e v ++ rest) 12 ≡ v)
 unfolding u16_at u32_at le16 le32
-read-element e v rest a b c d f = (value32 e.start a, value32 e.«end» b, value16 e.level c, value16 e.name d, value32 v f)
+read_element e v rest a b c d f = (value32 e.start a, value32 e.«end» b, value16 e.level c, value16 e.name d, value32 v f)
 
 read_name : (o n f : ℕ) (rest : List ℕ) → o < 4294967296 → n < 4294967296 → f < 4294967296
     → (u32_at (name_bytes o n f ++ rest) 0 ≡ o) × (u32_at (name_bytes o n f ++ rest) 4 ≡ n) × (u32_at (name_bytes o n f ++ rest) 8 ≡ f)
 unfolding u32_at le32
 read_name o n f rest a b c = (value32 o a, value32 n b, value32 f c)
 
-read-header : (e n c : ℕ) (rest : List ℕ) → e < 65536 → n < 65536 → c < 65536
+read_header : (e n c : ℕ) (rest : List ℕ) → e < 65536 → n < 65536 → c < 65536
     → (u32_at (header_bytes e n c ++ rest) 0 ≡ 1) × (u32_at (header_bytes e n c ++ rest) 4 ≡ e) × (u32_at (header_bytes e n c ++ rest) 8 ≡ n)
     × (u32_at (header_bytes e n c ++ rest) 12 ≡ 32) × (u32_at (header_bytes e n c ++ rest) 16 ≡ 32 + 16 * e)
     × (u32_at (header_bytes e n c ++ rest) 20 ≡ 32 + 16 * e + 12 * n) × (u32_at (header_bytes e n c ++ rest) 24 ≡ c)
     × (u32_at (header_bytes e n c ++ rest) 28 ≡ 32 + 16 * e + 12 * n + c)
 unfolding u32_at le32
-read-header e n c rest p q r = (
+read_header e n c rest p q r = (
   refl,
   value32 e (omega arith),
   value32 n (omega arith),
@@ -60,7 +60,7 @@ module _ (es : List Element) (ts : List (List ℕ)) (s : Small es ts) where
       × (u32_at (encoded es ts) 20 ≡ 32 + 16 * length es + 12 * length ts) × (u32_at (encoded es ts) 24 ≡ length (joint ts))
       × (u32_at (encoded es ts) 28 ≡ 32 + 16 * length es + 12 * length ts + length (joint ts))
   head =
-      read-header (length es) (length ts) (length (joint ts)) (element_table es 0 ++ (name_table (λ j. seek j es 0) ts 0 0 ++ joint ts))
+      read_header (length es) (length ts) (length (joint ts)) (element_table es 0 ++ (name_table (λ j. seek j es 0) ts 0 0 ++ joint ts))
       (omega (arith, s.elements)) (omega (arith, s.names)) (omega (arith, s.bytes))
 
   pub shown_count : element_count (encoded es ts) ≡ length es
@@ -72,23 +72,23 @@ module _ (es : List Element) (ts : List (List ℕ)) (s : Small es ts) where
   pub shown_bytes : byte_count (encoded es ts) ≡ length (joint ts)
   shown_bytes = head.6
 
-  past-header : (m : ℕ) → drop (32 + m) (encoded es ts) ≡ drop m (element_table es 0 ++ (name_table (λ j. seek j es 0) ts 0 0 ++ joint ts))
-  past-header m =
+  past_header : (m : ℕ) → drop (32 + m) (encoded es ts) ≡ drop m (element_table es 0 ++ (name_table (λ j. seek j es 0) ts 0 0 ++ joint ts))
+  past_header m =
       let h = header_bytes (length es) (length ts) (length (joint ts)) in
       let x = element_table es 0 ++ (name_table (λ j. seek j es 0) ts 0 0 ++ joint ts) in
       sym (drop-drop m 32 (encoded es ts)) ∙ ap (drop m) (drop_at h x 32 (length-header (length es) (length ts) (length (joint ts))))
 
-  past-elements : (m : ℕ) → drop (32 + (16 * length es + m)) (encoded es ts) ≡ drop m (name_table (λ j. seek j es 0) ts 0 0 ++ joint ts)
-  past-elements m =
+  past_elements : (m : ℕ) → drop (32 + (16 * length es + m)) (encoded es ts) ≡ drop m (name_table (λ j. seek j es 0) ts 0 0 ++ joint ts)
+  past_elements m =
       let a = element_table es 0 in
       let y = name_table (λ j. seek j es 0) ts 0 0 ++ joint ts in
-      past-header (16 * length es + m)
+      past_header (16 * length es + m)
       ∙ (sym (drop-drop m (16 * length es) (a ++ y)) ∙ ap (drop m) (drop_at a y (16 * length es) (length-elements es 0)))
 
-  past-names : (m : ℕ) → drop (32 + (16 * length es + (12 * length ts + m))) (encoded es ts) ≡ drop m (joint ts)
-  past-names m =
+  past_names : (m : ℕ) → drop (32 + (16 * length es + (12 * length ts + m))) (encoded es ts) ≡ drop m (joint ts)
+  past_names m =
       let b = name_table (λ j. seek j es 0) ts 0 0 in
-      past-elements (12 * length ts + m)
+      past_elements (12 * length ts + m)
       ∙ (sym (drop-drop m (12 * length ts) (b ++ joint ts)) ∙ ap (drop m) (drop_at b (joint ts) (12 * length ts) (length-names (λ j. seek j es 0) ts 0 0)))
 
   module _ (k : ℕ) (h : k < length es) where
@@ -98,16 +98,16 @@ module _ (es : List Element) (ts : List (List ℕ)) (s : Small es ts) where
     rest : List ℕ
     rest = element_table (drop (k + 1) es) (k + 1) ++ (name_table (λ j. seek j es 0) ts 0 0 ++ joint ts)
 
-    at-element : drop (32 + 16 * k) (encoded es ts) ≡ element_bytes (get_or es k blank) next ++ rest
+    at_element : drop (32 + 16 * k) (encoded es ts) ≡ element_bytes (get_or es k blank) next ++ rest
     unfolding next rest
-    at-element =
+    at_element =
         let y = name_table (λ j. seek j es 0) ts 0 0 ++ joint ts in
         let z : 0 + k ≡ k = omega arith in
         let v = element_bytes (get_or es k blank) (seek (get_or es k blank).name (drop (k + 1) es) (k + 1)) in
         let w = element_table (drop (k + 1) es) (k + 1) in
         let d : drop (16 * k) (element_table es 0) ≡ v ++ w =
         drop-elements es k 0 (omega arith) ∙ (ap (element_table (drop k es)) z ∙ at_drop_more (λ (xs : List Element). element_table xs k) es k blank h) in
-        past-header (16 * k)
+        past_header (16 * k)
         ∙ (drop-append-le (16 * k) (element_table es 0) y (omega (arith, length-elements es 0))
         ∙ (ap (λ (x : List ℕ). x ++ y) d ∙ append_assoc v w y))
 
@@ -117,23 +117,23 @@ module _ (es : List Element) (ts : List (List ℕ)) (s : Small es ts) where
     unfolding next
     numbers =
         let f = s.each k h in
-        read-element (get_or es k blank) next rest f.0 f.1 f.2 f.3 (s.found (get_or es k blank).name (k + 1) (omega arith))
+        read_element (get_or es k blank) next rest f.0 f.1 f.2 f.3 (s.found (get_or es k blank).name (k + 1) (omega arith))
 
     pub shown_element : element_at (encoded es ts) k ≡ get_or es k blank
     shown_element =
         let v = element_bytes (get_or es k blank) next ++ rest in
         let r = numbers in
         let o = 32 + 16 * k in
-        let a : u32_at (encoded es ts) (32 + 16 * k) ≡ (get_or es k blank).start = at_offset (encoded es ts) v o 0 (32 + 16 * k) at-element (omega arith) ∙ r.0 in
-        let b : u32_at (encoded es ts) (36 + 16 * k) ≡ (get_or es k blank).«end» = at_offset (encoded es ts) v o 4 (36 + 16 * k) at-element (omega arith) ∙ r.1 in
-        let c : u16_at (encoded es ts) (40 + 16 * k) ≡ (get_or es k blank).level = at_offset16 (encoded es ts) v o 8 (40 + 16 * k) at-element (omega arith) ∙ r.2 in
-        let d : u16_at (encoded es ts) (42 + 16 * k) ≡ (get_or es k blank).name = at_offset16 (encoded es ts) v o 10 (42 + 16 * k) at-element (omega arith) ∙ r.3 in
+        let a : u32_at (encoded es ts) (32 + 16 * k) ≡ (get_or es k blank).start = at_offset (encoded es ts) v o 0 (32 + 16 * k) at_element (omega arith) ∙ r.0 in
+        let b : u32_at (encoded es ts) (36 + 16 * k) ≡ (get_or es k blank).«end» = at_offset (encoded es ts) v o 4 (36 + 16 * k) at_element (omega arith) ∙ r.1 in
+        let c : u16_at (encoded es ts) (40 + 16 * k) ≡ (get_or es k blank).level = at_offset16 (encoded es ts) v o 8 (40 + 16 * k) at_element (omega arith) ∙ r.2 in
+        let d : u16_at (encoded es ts) (42 + 16 * k) ≡ (get_or es k blank).name = at_offset16 (encoded es ts) v o 10 (42 + 16 * k) at_element (omega arith) ∙ r.3 in
         λ i. record { start = a i; «end» = b i; level = c i; name = d i }
 
     pub shown_next : next_at (encoded es ts) k ≡ seek (get_or es k blank).name (drop (k + 1) es) (k + 1)
     unfolding next
     shown_next =
-        at_offset (encoded es ts) (element_bytes (get_or es k blank) next ++ rest) (32 + 16 * k) 12 (44 + 16 * k) at-element (omega arith) ∙ numbers.4
+        at_offset (encoded es ts) (element_bytes (get_or es k blank) next ++ rest) (32 + 16 * k) 12 (44 + 16 * k) at_element (omega arith) ∙ numbers.4
 
   module _ (j : ℕ) (h : j < length ts) where
     before_text : length (joint (take j ts)) + length (joint (drop j ts)) ≡ length (joint ts)
@@ -153,7 +153,7 @@ module _ (es : List Element) (ts : List (List ℕ)) (s : Small es ts) where
         let w = name_table f (drop (j + 1) ts) (j + 1) (o + length (get_or ts j [])) in
         let d : drop (12 * j) (name_table f ts 0 0) ≡ v ++ w =
         drop-names f ts j 0 0 (omega arith) ∙ rw (z, y) (at_drop_more (λ (xs : List (List ℕ)). name_table f xs j o) ts j [] h) in
-        past-elements (12 * j)
+        past_elements (12 * j)
         ∙ (drop-append-le (12 * j) (name_table f ts 0 0) (joint ts) (omega (arith, length-names f ts 0 0))
         ∙ (ap (λ (x : List ℕ). x ++ joint ts) d ∙ append_assoc v w (joint ts)))
 
@@ -179,5 +179,5 @@ module _ (es : List Element) (ts : List (List ℕ)) (s : Small es ts) where
         let b : bytes_offset (encoded es ts) + (name_at (encoded es ts) j).offset ≡ 32 + (16 * length es + (12 * length ts + u)) =
         omega (arith, shown_count, shown_names, ap (λ (n : NameRecord). n.offset) shown_name) in
         let d : drop (32 + (16 * length es + (12 * length ts + u))) (encoded es ts) ≡ t ++ joint (drop (j + 1) ts) =
-        past-names u ∙ (drop-joint ts j ∙ at_drop_more joint ts j [] h) in
+        past_names u ∙ (drop-joint ts j ∙ at_drop_more joint ts j [] h) in
         rw (a, b, d) (take_at t (joint (drop (j + 1) ts)) (length t) refl)

@@ -11,9 +11,9 @@ use Rattle.layout.specs.Lawful.{FirstFrom, FirstNamed, LawfulSheet, names_end, u
 use Rattle.layout.specs.Encoding.{blank, seek, le16, le32, element_bytes, element_table, name_bytes, name_table, header_bytes, words, joint, encoded, sheet_of}
 use Rattle.layout.specs.Laws.{Bytes, SheetShowsATree, SheetOfItsTree, OneSheetForATree, SheetsOfLawfulTrees}
 use Rattle.layout.proofs.Digits.{split16, split32}
-use Rattle.layout.proofs.Firsts.{seek-first, first_same, first_unique}
+use Rattle.layout.proofs.Firsts.{seek_first, first_same, first_unique}
 use Rattle.layout.proofs.Regions.{book_of_fits}
-use Rattle.layout.proofs.Encoded.{encoded-lawful}
+use Rattle.layout.proofs.Encoded.{encoded_lawful}
 
 -- the lists that a sheet shows
 pub length-elements_of : (bs : List ℕ) → length (elements_of bs) ≡ element_count bs
@@ -43,8 +43,8 @@ module _ (bs : List ℕ) (bytes : Bytes bs) (law : LawfulSheet bs) where
   join : (v w : List ℕ) (o p q : ℕ) → drop o bs ≡ v ++ drop p bs → drop p bs ≡ w ++ drop q bs → drop o bs ≡ (v ++ w) ++ drop q bs
   join v w o p q a b = a ∙ (ap (λ (x : List ℕ). v ++ x) b ∙ sym (append_assoc v w (drop q bs)))
 
-  element-part : (k : ℕ) → k < element_count bs → drop (32 + 16 * k) bs ≡ element_bytes (element_at bs k) (next_at bs k) ++ drop (32 + 16 * (k + 1)) bs
-  element-part k h =
+  element_part : (k : ℕ) → k < element_count bs → drop (32 + 16 * k) bs ≡ element_bytes (element_at bs k) (next_at bs k) ++ drop (32 + 16 * (k + 1)) bs
+  element_part k h =
       let e = size in
       let a = word (44 + 16 * k) (32 + 16 * (k + 1)) (omega arith) (omega arith) in
       let b = half (42 + 16 * k) (44 + 16 * k) (omega arith) (omega arith) in
@@ -82,7 +82,7 @@ module _ (bs : List ℕ) (bytes : Bytes bs) (law : LawfulSheet bs) where
   sought : (x m i : ℕ) → m ≤ element_count bs → FirstNamed bs x m i → i ≡ seek x (drop m els) m
   sought x m i h f =
       let l = els_length in
-      let s = subst (λ (n : ℕ). FirstFrom (λ k. (get_or els k blank).name) n x m (seek x (drop m els) m)) l (seek-first els x m (omega arith)) in
+      let s = subst (λ (n : ℕ). FirstFrom (λ k. (get_or els k blank).name) n x m (seek x (drop m els) m)) l (seek_first els x m (omega arith)) in
       let t = first_same (λ k. (get_or els k blank).name) (λ n. (element_at bs n).name) (element_count bs) x m (seek x (drop m els) m)
       (λ k q. ap (λ (e : Element). e.name) (els_at k q)) s in
       first_unique (λ n. (element_at bs n).name) (element_count bs) x m i (seek x (drop m els) m) f t
@@ -97,18 +97,18 @@ module _ (bs : List ℕ) (bytes : Bytes bs) (law : LawfulSheet bs) where
       ap (λ (v : List ℕ). v ++ element_table (drop (k + 1) els) (k + 1)) r
       ∙ sym (at_drop_more (λ (xs : List Element). element_table xs k) els k blank (omega (arith, els_length)))
 
-  elements-part : (d k : ℕ) → k + d ≡ element_count bs → drop (32 + 16 * k) bs ≡ element_table (drop k els) k ++ drop (32 + 16 * element_count bs) bs
-  elements-part zero k h =
+  elements_part : (d k : ℕ) → k + d ≡ element_count bs → drop (32 + 16 * k) bs ≡ element_table (drop k els) k ++ drop (32 + 16 * element_count bs) bs
+  elements_part zero k h =
       let p = drop_all k els (omega (arith, els_length)) in
       let e : k ≡ element_count bs = omega arith in
       rw p (ap (λ (n : ℕ). drop (32 + 16 * n) bs) e)
-  elements-part (suc d) k h =
-      join _ _ _ _ _ (element-part k (omega arith)) (elements-part d (k + 1) (omega arith))
+  elements_part (suc d) k h =
+      join _ _ _ _ _ (element_part k (omega arith)) (elements_part d (k + 1) (omega arith))
       ∙ ap (λ (v : List ℕ). v ++ drop (32 + 16 * element_count bs) bs) (element_more k (omega arith))
 
-  name-part : (j : ℕ) → j < name_count bs
+  name_part : (j : ℕ) → j < name_count bs
       → drop (name_offset bs j) bs ≡ name_bytes (name_at bs j).offset (name_at bs j).length (name_at bs j).first ++ drop (name_offset bs (j + 1)) bs
-  name-part j h =
+  name_part j h =
       let e = size in
       let o = name_offset bs j in
       let a = word (o + 8) (name_offset bs (j + 1)) (omega arith) (omega arith) in
@@ -117,8 +117,8 @@ module _ (bs : List ℕ) (bytes : Bytes bs) (law : LawfulSheet bs) where
       let l₁ = join _ _ _ _ _ b a in
       join _ _ _ _ _ c l₁
 
-  text-length : (j : ℕ) → j < name_count bs → length (name_text bs j) ≡ (name_at bs j).length
-  text-length j h =
+  text_length : (j : ℕ) → j < name_count bs → length (name_text bs j) ≡ (name_at bs j).length
+  text_length j h =
       let o = bytes_offset bs + (name_at bs j).offset in
       length-take-le (name_at bs j).length (drop o bs) (omega (arith, length-drop o bs, (law.names j h).within, size))
 
@@ -129,7 +129,7 @@ module _ (bs : List ℕ) (bytes : Bytes bs) (law : LawfulSheet bs) where
   name_more j h =
       let f = sought j 0 (name_at bs j).first (omega arith) (law.names j h).first in
       let o = (law.names j h).follows in
-      let l : (name_at bs j).length ≡ length (get_or nms j []) = sym (text-length j h) ∙ ap length (sym (nms_at j h)) in
+      let l : (name_at bs j).length ≡ length (get_or nms j []) = sym (text_length j h) ∙ ap length (sym (nms_at j h)) in
       let g : ℕ → ℕ = λ i. seek i els 0 in
       let r : name_bytes (name_at bs j).offset (name_at bs j).length (name_at bs j).first ++ name_table g (drop (j + 1) nms) (j + 1) (names_end bs j + (name_at bs j).length)
       ≡ name_bytes (names_end bs j) (length (get_or nms j [])) (g j) ++ name_table g (drop (j + 1) nms) (j + 1) (names_end bs j + length (get_or nms j [])) =
@@ -139,16 +139,16 @@ module _ (bs : List ℕ) (bytes : Bytes bs) (law : LawfulSheet bs) where
   end_more : (j : ℕ) → names_end bs (j + 1) ≡ names_end bs j + (name_at bs j).length
   end_more j = rw add-one
 
-  names-part : (d j : ℕ) → j + d ≡ name_count bs
+  names_part : (d j : ℕ) → j + d ≡ name_count bs
       → drop (name_offset bs j) bs ≡ name_table (λ i. seek i els 0) (drop j nms) j (names_end bs j) ++ drop (bytes_offset bs) bs
-  names-part zero j h =
+  names_part zero j h =
       let p = drop_all j nms (omega (arith, nms_length)) in
       let e : j ≡ name_count bs = omega arith in
       rw p (ap (λ (n : ℕ). drop (name_offset bs n) bs) e)
-  names-part (suc d) j h =
+  names_part (suc d) j h =
       let i : drop (name_offset bs (j + 1)) bs ≡ name_table (λ i. seek i els 0) (drop (j + 1) nms) (j + 1) (names_end bs j + (name_at bs j).length) ++ drop (bytes_offset bs) bs =
-      let m = end_more j in rw m at (names-part d (j + 1) (omega arith)) in
-      join _ _ _ _ _ (name-part j (omega arith)) i
+      let m = end_more j in rw m at (names_part d (j + 1) (omega arith)) in
+      join _ _ _ _ _ (name_part j (omega arith)) i
       ∙ ap (λ (v : List ℕ). v ++ drop (bytes_offset bs) bs) (name_more j (omega arith))
 
   texts_part : (d j : ℕ) → j + d ≡ name_count bs → drop (bytes_offset bs + names_end bs j) bs ≡ joint (drop j nms)
@@ -178,8 +178,8 @@ module _ (bs : List ℕ) (bytes : Bytes bs) (law : LawfulSheet bs) where
   word_join : (o p : ℕ) (ns : List ℕ) → p ≡ o + 4 → p ≤ 32 → drop p bs ≡ words ns ++ drop 32 bs → drop o bs ≡ words (u32_at bs o ∷ ns) ++ drop 32 bs
   word_join o p ns e h t = join (le32 (u32_at bs o)) (words ns) o p 32 (word o p e (omega (arith, size))) t
 
-  header-part : bs ≡ words (u32_at bs 0 ∷ u32_at bs 4 ∷ u32_at bs 8 ∷ u32_at bs 12 ∷ u32_at bs 16 ∷ u32_at bs 20 ∷ u32_at bs 24 ∷ u32_at bs 28 ∷ []) ++ drop 32 bs
-  header-part =
+  header_part : bs ≡ words (u32_at bs 0 ∷ u32_at bs 4 ∷ u32_at bs 8 ∷ u32_at bs 12 ∷ u32_at bs 16 ∷ u32_at bs 20 ∷ u32_at bs 24 ∷ u32_at bs 28 ∷ []) ++ drop 32 bs
+  header_part =
       let w₇ = u32_at bs 28 ∷ [] in
       let w₆ = u32_at bs 24 ∷ w₇ in
       let w₅ = u32_at bs 20 ∷ w₆ in
@@ -209,12 +209,12 @@ module _ (bs : List ℕ) (bytes : Bytes bs) (law : LawfulSheet bs) where
 
   one_by : bs ≡ encoded els nms
   one_by =
-      let b = names-part (name_count bs) 0 (omega arith) in
+      let b = names_part (name_count bs) 0 (omega arith) in
       let z : name_offset bs 0 ≡ 32 + 16 * element_count bs = omega arith in
       let b' : drop (32 + 16 * element_count bs) bs ≡ name_table (λ i. seek i els 0) nms 0 0 ++ joint nms =
       ap (λ (n : ℕ). drop n bs) (sym z) ∙ (b ∙ ap (λ (x : List ℕ). name_table (λ i. seek i els 0) nms 0 0 ++ x) texts) in
-      let a : drop 32 bs ≡ element_table els 0 ++ drop (32 + 16 * element_count bs) bs = elements-part (element_count bs) 0 (omega arith) in
-      header-part
+      let a : drop 32 bs ≡ element_table els 0 ++ drop (32 + 16 * element_count bs) bs = elements_part (element_count bs) 0 (omega arith) in
+      header_part
       ∙ (ap (λ (x : List ℕ). x ++ drop 32 bs) header_same
       ∙ ap (λ (x : List ℕ). header_bytes (length els) (length nms) (length (joint nms)) ++ x) (a ∙ ap (λ (x : List ℕ). element_table els 0 ++ x) b'))
 
@@ -242,8 +242,8 @@ module _ (bs : List ℕ) (law : LawfulSheet bs) where
   used_most (suc k) h = omega (arith, used_most k (omega arith), (law.elements k h).numbers.named)
 
   -- the last name has an element, so all are used
-  all-used : used bs (element_count bs) ≡ name_count bs
-  all-used =
+  all_used : used bs (element_count bs) ≡ name_count bs
+  all_used =
       let f = law.header 2 (lit< tt) in
       let last = law.names (name_count bs - 1) (omega arith) in
       let first = (name_at bs (name_count bs - 1)).first in
@@ -265,7 +265,7 @@ module _ (bs : List ℕ) (law : LawfulSheet bs) where
         used =
             uses_from_places (elements_of bs) (length (names_of bs)) (used bs) used_in
             (λ k h. let l : k < element_count bs = omega arith in omega (arith, name_of k l, (law.elements k l).numbers.fresh))
-            (ap (used bs) count ∙ (all-used ∙ sym names));
+            (ap (used bs) count ∙ (all_used ∙ sym names));
       }
 
 pub sheet_shows_a_tree : SheetShowsATree
@@ -274,5 +274,5 @@ sheet_shows_a_tree = lawful_tree_of
 pub sheets_of_lawful_trees : SheetsOfLawfulTrees
 sheets_of_lawful_trees bs bytes = (
   λ law. (tree_of bs, lawful_tree_of bs law, sheet_of_its_tree bs bytes law),
-  λ h. subst LawfulSheet (sym h.2) (encoded-lawful h.0.elements h.0.names h.1),
+  λ h. subst LawfulSheet (sym h.2) (encoded_lawful h.0.elements h.0.names h.1),
 )

@@ -10,10 +10,10 @@ use Rattle.markup.specs.declared.fault.Refusal.TheVariants.{Stray, BookNameTooLo
 use Rattle.markup.specs.Faults.{fault, and_then}
 use Rattle.markup.specs.Name.{name_first, name_byte, LawfulName}
 use Rattle.markup.proofs.Leading.{leading_append}
-use Rattle.markup.proofs.Names.{first_is_byte, name-run}
+use Rattle.markup.proofs.Names.{first_is_byte, name_run}
 use Rattle.lexer.specs.Item.{Item}
 use Rattle.lexer.specs.Lex.{name_at, end_tail, start_tail, item_at}
-use Rattle.lexer.proofs.Tags.{name-at, not-slash}
+use Rattle.lexer.proofs.Tags.{name_at_lem, not_slash}
 
 -- Names at the front.
 
@@ -78,24 +78,24 @@ view (c ∷ cs) =
 no_name : (p c : ℕ) (rest : List ℕ) → name_first c ≡ false → name_at p (c ∷ rest) ≡ Err (fault Stray p)
 no_name p c rest h = cond-false _ _ _ h
 
-long-name : (p : ℕ) (n : List ℕ) (c : ℕ) (rest : List ℕ) → LawfulName n → length n ≡ 32 → name_byte c ≡ true → name_at p (n ++ c ∷ rest) ≡ Err (fault BookNameTooLong (p + 32))
-long-name p n c rest l h b =
+long_name : (p : ℕ) (n : List ℕ) (c : ℕ) (rest : List ℕ) → LawfulName n → length n ≡ 32 → name_byte c ≡ true → name_at p (n ++ c ∷ rest) ≡ Err (fault BookNameTooLong (p + 32))
+long_name p n c rest l h b =
     let e = leading_append name_byte n (c ∷ rest) l.each in
     let d : prefix_len name_byte (c ∷ rest) ≡ 1 + prefix_len name_byte rest = ap (λ x. cond x (1 + prefix_len name_byte rest) 0) b in
     let lt : 32 < prefix_len name_byte (n ++ c ∷ rest) = omega arith in
     cond-true _ _ _ (ap name_first (get_or-append n (c ∷ rest) 0 0 l.some) ∙ l.first) ∙ cond-false _ _ _ (lt-leb _ _ lt)
 
-cut-name : (p : ℕ) (n : List ℕ) → LawfulName n → name_at p n ≡ Ok (length n)
-cut-name p n l =
-    let e : prefix_len name_byte n ≡ length n = name-run n l in
+cut_name : (p : ℕ) (n : List ℕ) → LawfulName n → name_at p n ≡ Ok (length n)
+cut_name p n l =
+    let e : prefix_len name_byte n ≡ length n = name_run n l in
     let le : prefix_len name_byte n ≤ 32 = omega (arith, l.short) in
     cond-true _ _ _ l.first ∙ cond-true _ _ _ (le-leb _ _ le) ∙ ap Ok e
 
 first_no_slash : (c : ℕ) (n : List ℕ) → LawfulName (c ∷ n) → eqb c 47 ≡ false
 first_no_slash c n l = ne_eqb _ _ (λ e. true≢false (sym l.first ∙ ap name_first e))
 
-pub ok-not-err : (s : Item) (f : Fault) → ◌≡◌ {A = Result Item Fault} (Ok s) (Err f) → ⊥
-ok-not-err s f e = let z : ◌≡◌ {A = ℕ} 0 1 = cc in omega arith
+pub ok_not_err : (s : Item) (f : Fault) → ◌≡◌ {A = Result Item Fault} (Ok s) (Err f) → ⊥
+ok_not_err s f e = let z : ◌≡◌ {A = ℕ} 0 1 = cc in omega arith
 
 module _ (p : ℕ) where
   pub start_nofirst : (c : ℕ) (rest : List ℕ) → eqb c 47 ≡ false → name_first c ≡ false → item_at p (60 ∷ c ∷ rest) ≡ Err (fault Stray (p + 1))
@@ -105,39 +105,39 @@ module _ (p : ℕ) where
   end_nofirst c rest h = ap (λ r. and_then r (end_tail p (c ∷ rest))) (no_name (p + 2) c rest h)
 
   module _ (n : List ℕ) (l : LawfulName n) where
-    pub start-long : (c : ℕ) (rest : List ℕ) → length n ≡ 32 → name_byte c ≡ true → item_at p (60 ∷ n ++ c ∷ rest) ≡ Err (fault BookNameTooLong (p + 1 + 32))
-    start-long c rest h b = cond-false _ _ _ (not-slash n l c rest) ∙ ap (λ r. and_then r (start_tail p (n ++ c ∷ rest))) (long-name (p + 1) n c rest l h b)
+    pub start_long : (c : ℕ) (rest : List ℕ) → length n ≡ 32 → name_byte c ≡ true → item_at p (60 ∷ n ++ c ∷ rest) ≡ Err (fault BookNameTooLong (p + 1 + 32))
+    start_long c rest h b = cond-false _ _ _ (not_slash n l c rest) ∙ ap (λ r. and_then r (start_tail p (n ++ c ∷ rest))) (long_name (p + 1) n c rest l h b)
 
-    pub end-long : (c : ℕ) (rest : List ℕ) → length n ≡ 32 → name_byte c ≡ true → item_at p (60 ∷ 47 ∷ n ++ c ∷ rest) ≡ Err (fault BookNameTooLong (p + 2 + 32))
-    end-long c rest h b = ap (λ r. and_then r (end_tail p (n ++ c ∷ rest))) (long-name (p + 2) n c rest l h b)
+    pub end_long : (c : ℕ) (rest : List ℕ) → length n ≡ 32 → name_byte c ≡ true → item_at p (60 ∷ 47 ∷ n ++ c ∷ rest) ≡ Err (fault BookNameTooLong (p + 2 + 32))
+    end_long c rest h b = ap (λ r. and_then r (end_tail p (n ++ c ∷ rest))) (long_name (p + 2) n c rest l h b)
 
     past : get_or n (length n) 0 ≡ 0
     past = get_or_past n (length n) 0 (omega arith)
 
-    pub start-cut : item_at p (60 ∷ n) ≡ Err (fault Stray (p + 1 + length n))
-    start-cut =
+    pub start_cut : item_at p (60 ∷ n) ≡ Err (fault Stray (p + 1 + length n))
+    start_cut =
         let s : eqb (get_or n 0 0) 47 ≡ false = ne_eqb _ _ (λ e. true≢false (sym l.first ∙ ap name_first e)) in
-        cond-false _ _ _ s ∙ ap (λ r. and_then r (start_tail p n)) (cut-name (p + 1) n l)
+        cond-false _ _ _ s ∙ ap (λ r. and_then r (start_tail p n)) (cut_name (p + 1) n l)
         ∙ cond-false _ _ _ (ap (λ x. eqb x 62) past) ∙ cond-false _ _ _ (ap (λ x. eqb x 47) past)
 
-    pub end-cut : item_at p (60 ∷ 47 ∷ n) ≡ Err (fault Stray (p + 2 + length n))
-    end-cut = ap (λ r. and_then r (end_tail p n)) (cut-name (p + 2) n l) ∙ cond-false _ _ _ (ap (λ x. eqb x 62) past)
+    pub end_cut : item_at p (60 ∷ 47 ∷ n) ≡ Err (fault Stray (p + 2 + length n))
+    end_cut = ap (λ r. and_then r (end_tail p n)) (cut_name (p + 2) n l) ∙ cond-false _ _ _ (ap (λ x. eqb x 62) past)
 
     pub start_bad : (c : ℕ) (rest : List ℕ) → name_byte c ≡ false → eqb c 62 ≡ false → eqb c 47 ≡ false → item_at p (60 ∷ n ++ c ∷ rest) ≡ Err (fault Stray (p + 1 + length n))
     start_bad c rest b x y =
         let at = get_or-append_seam n c rest 0 in
-        cond-false _ _ _ (not-slash n l c rest) ∙ ap (λ r. and_then r (start_tail p (n ++ c ∷ rest))) (name-at n l c rest (p + 1) b)
+        cond-false _ _ _ (not_slash n l c rest) ∙ ap (λ r. and_then r (start_tail p (n ++ c ∷ rest))) (name_at_lem n l c rest (p + 1) b)
         ∙ cond-false _ _ _ (ap (λ x. eqb x 62) at ∙ x) ∙ cond-false _ _ _ (ap (λ x. eqb x 47) at ∙ y)
 
     pub end_bad : (c : ℕ) (rest : List ℕ) → name_byte c ≡ false → eqb c 62 ≡ false → item_at p (60 ∷ 47 ∷ n ++ c ∷ rest) ≡ Err (fault Stray (p + 2 + length n))
     end_bad c rest b x =
         let at = get_or-append_seam n c rest 0 in
-        ap (λ r. and_then r (end_tail p (n ++ c ∷ rest))) (name-at n l c rest (p + 2) b) ∙ cond-false _ _ _ (ap (λ x. eqb x 62) at ∙ x)
+        ap (λ r. and_then r (end_tail p (n ++ c ∷ rest))) (name_at_lem n l c rest (p + 2) b) ∙ cond-false _ _ _ (ap (λ x. eqb x 62) at ∙ x)
 
     -- after the slash
     pub slash_bad : (rest : List ℕ) → eqb (get_or rest 0 0) 62 ≡ false → item_at p (60 ∷ n ++ 47 ∷ rest) ≡ Err (fault Stray (p + 2 + length n))
     slash_bad rest x =
         let at = get_or-append_seam n 47 rest 0 in
         let next : get_or (n ++ 47 ∷ rest) (length n + 1) 0 ≡ get_or rest 0 0 = get_or-append-add n (47 ∷ rest) 1 0 in
-        cond-false _ _ _ (not-slash n l 47 rest) ∙ ap (λ r. and_then r (start_tail p (n ++ 47 ∷ rest))) (name-at n l 47 rest (p + 1) refl)
+        cond-false _ _ _ (not_slash n l 47 rest) ∙ ap (λ r. and_then r (start_tail p (n ++ 47 ∷ rest))) (name_at_lem n l 47 rest (p + 1) refl)
         ∙ cond-false _ _ _ (ap (λ x. eqb x 62) at) ∙ cond-true _ _ _ (eq-eqb _ _ at) ∙ cond-false _ _ _ (ap (λ x. eqb x 62) next ∙ x)

@@ -13,7 +13,7 @@ use Rattle.lexer.specs.Item.{Item, Item.start, Item.end, Item.empty, Tag, spelli
 use Rattle.lexer.specs.Lex.{item_at}
 use Rattle.lexer.specs.BadTag.{TagFront, Opens, Overlong, BadTag, BadTag.ends, BadTag.stray, BadTag.long}
 use Rattle.lexer.proofs.Tags.{tag_at}
-use Rattle.lexer.proofs.Behind.{View, View.nothing, View.nofirst, View.overlong, View.cut, View.full, view, ok-not-err, start_nofirst, end_nofirst, start-long, end-long, start-cut, end-cut, start_bad, end_bad, slash_bad}
+use Rattle.lexer.proofs.Behind.{View, View.nothing, View.nofirst, View.overlong, View.cut, View.full, view, ok_not_err, start_nofirst, end_nofirst, start_long, end_long, start_cut, end_cut, start_bad, end_bad, slash_bad}
 
 -- Judgement.
 
@@ -27,12 +27,12 @@ Judged bs p = ((f : Fault) × (item_at p bs ≡ Err f) × BadTag bs p f) ⊎ ((i
 unfits : (p : ℕ) (xs : List ℕ) (c : ℕ) (f : Fault) → ((more : List ℕ) → item_at p (xs ++ c ∷ more) ≡ Err f) → TagFront (xs ++ c ∷ []) → ⊥
 unfits p xs c f h t =
     let whole : spelling t.0 ++ [] ≡ xs ++ c ∷ t.2 = append-nil (spelling t.0) ∙ t.3 ∙ append_assoc xs (c ∷ []) t.2 in
-    ok-not-err _ f (sym (tag_at p t.0 [] t.1) ∙ ap (item_at p) whole ∙ h t.2)
+    ok_not_err _ f (sym (tag_at p t.0 [] t.1) ∙ ap (item_at p) whole ∙ h t.2)
 
-stray-at : (p : ℕ) (xs : List ℕ) (c : ℕ) (rest : List ℕ) (q : ℕ) → ((more : List ℕ) → item_at p (xs ++ c ∷ more) ≡ Err (fault Stray q)) → Opens xs → (Overlong xs c → ⊥) → q ≡ p + length xs
+stray_at : (p : ℕ) (xs : List ℕ) (c : ℕ) (rest : List ℕ) (q : ℕ) → ((more : List ℕ) → item_at p (xs ++ c ∷ more) ≡ Err (fault Stray q)) → Opens xs → (Overlong xs c → ⊥) → q ≡ p + length xs
     → Judged (xs ++ c ∷ rest) p
 unfolding Judged
-stray-at p xs c rest q h o n e = inl (_, h rest, stray xs c rest refl o (unfits p xs c _ h) n (ap (fault Stray) e))
+stray_at p xs c rest q h o n e = inl (_, h rest, stray xs c rest refl o (unfits p xs c _ h) n (ap (fault Stray) e))
 
 ends_at : (p : ℕ) (bs : List ℕ) (q : ℕ) → item_at p bs ≡ Err (fault Stray q) → Opens bs → q ≡ p + length bs → Judged bs p
 unfolding Judged
@@ -57,9 +57,9 @@ slash_front n c l o =
     true≢false (sym l.first ∙ ap name_first at))
     o.4
 
-long-at : (p : ℕ) (xs : List ℕ) (c : ℕ) (rest : List ℕ) (q : ℕ) → item_at p (xs ++ c ∷ rest) ≡ Err (fault BookNameTooLong q) → Overlong xs c → q ≡ p + length xs → Judged (xs ++ c ∷ rest) p
+long_at : (p : ℕ) (xs : List ℕ) (c : ℕ) (rest : List ℕ) (q : ℕ) → item_at p (xs ++ c ∷ rest) ≡ Err (fault BookNameTooLong q) → Overlong xs c → q ≡ p + length xs → Judged (xs ++ c ∷ rest) p
 unfolding Judged
-long-at p xs c rest q h o e = inl (_, h, long xs c rest refl o (ap (fault BookNameTooLong) e))
+long_at p xs c rest q h o e = inl (_, h, long xs c rest refl o (ap (fault BookNameTooLong) e))
 
 tag_here : (p : ℕ) (i : Item) (rest : List ℕ) → Tag i → Judged (spelling i ++ rest) p
 unfolding Judged
@@ -69,10 +69,10 @@ judge_end : (p : ℕ) (cs : List ℕ) → View cs → Judged (60 ∷ 47 ∷ cs) 
 judge_end p cs (nothing e) = subst (λ l. Judged (60 ∷ 47 ∷ l) p) (sym e) (ends_at p (60 ∷ 47 ∷ []) (p + 2) refl (end (97 ∷ []), letter, 97, 62 ∷ [], refl) refl)
 judge_end p cs (nofirst c rest e h) =
     subst (λ l. Judged (60 ∷ 47 ∷ l) p) (sym e)
-    (stray-at p (60 ∷ 47 ∷ []) c rest (p + 2) (λ more. end_nofirst p c more h) (end (97 ∷ []), letter, 97, 62 ∷ [], refl) (short_front _ c (omega arith)) refl)
+    (stray_at p (60 ∷ 47 ∷ []) c rest (p + 2) (λ more. end_nofirst p c more h) (end (97 ∷ []), letter, 97, 62 ∷ [], refl) (short_front _ c (omega arith)) refl)
 judge_end p cs (overlong n c rest e l h b) =
-    subst (λ l. Judged (60 ∷ 47 ∷ l) p) (sym e) (long-at p (60 ∷ 47 ∷ n) c rest (p + 2 + 32) (end-long p n l c rest h b) (n, l, h, b, inr refl) (omega arith))
-judge_end p cs (cut l) = ends_at p (60 ∷ 47 ∷ cs) (p + 2 + length cs) (end-cut p cs l) (end cs, l, 62, [], refl) (omega arith)
+    subst (λ l. Judged (60 ∷ 47 ∷ l) p) (sym e) (long_at p (60 ∷ 47 ∷ n) c rest (p + 2 + 32) (end_long p n l c rest h b) (n, l, h, b, inr refl) (omega arith))
+judge_end p cs (cut l) = ends_at p (60 ∷ 47 ∷ cs) (p + 2 + length cs) (end_cut p cs l) (end cs, l, 62, [], refl) (omega arith)
 judge_end p cs (full n c rest e l b) =
     subst (λ l. Judged (60 ∷ 47 ∷ l) p) (sym e)
     (⊎_elim
@@ -80,7 +80,7 @@ judge_end p cs (full n c rest e l b) =
     subst (λ y. Judged (60 ∷ 47 ∷ n ++ y ∷ rest) p) (sym (eqb-true c 62 x))
     (subst (λ l. Judged (60 ∷ 47 ∷ l) p) (append_assoc n (62 ∷ []) rest) (tag_here p (end n) rest l)))
     (λ (x : eqb c 62 ≡ false).
-    stray-at p (60 ∷ 47 ∷ n) c rest (p + 2 + length n) (λ more. end_bad p n l c more b x) (end n, l, 62, [], refl) (λ o. true≢false (sym o.3 ∙ b)) (omega arith))
+    stray_at p (60 ∷ 47 ∷ n) c rest (p + 2 + length n) (λ more. end_bad p n l c more b x) (end n, l, 62, [], refl) (λ o. true≢false (sym o.3 ∙ b)) (omega arith))
     (cases_Bool (eqb c 62)))
 
 judge_slash : (p : ℕ) (n rest : List ℕ) → LawfulName n → Judged (60 ∷ n ++ 47 ∷ rest) p
@@ -96,7 +96,7 @@ judge_slash p n (d ∷ rest) l =
     (subst (λ l. Judged (60 ∷ l) p) (append_assoc n (47 ∷ 62 ∷ []) rest) (tag_here p (empty n) rest l)))
     (λ (x : eqb d 62 ≡ false).
     subst (λ l. Judged l p) (assoc rest)
-    (stray-at p (60 ∷ n ++ 47 ∷ []) d rest (p + 2 + length n) (λ more. ap (item_at p) (assoc more) ∙ slash_bad p n l (d ∷ more) x)
+    (stray_at p (60 ∷ n ++ 47 ∷ []) d rest (p + 2 + length n) (λ more. ap (item_at p) (assoc more) ∙ slash_bad p n l (d ∷ more) x)
     (empty n, l, 62, [], ap (λ r. 60 ∷ r) (sym (append_assoc n (47 ∷ []) (62 ∷ [])))) (slash_front n d l) (omega arith)))
     (cases_Bool (eqb d 62))
 
@@ -104,10 +104,10 @@ judge_start : (p : ℕ) (cs : List ℕ) → eqb (get_or cs 0 0) 47 ≡ false →
 judge_start p cs s (nothing e) = subst (λ l. Judged (60 ∷ l) p) (sym e) (ends_at p (60 ∷ []) (p + 1) refl (start (97 ∷ []), letter, 97, 62 ∷ [], refl) refl)
 judge_start p cs s (nofirst c rest e h) =
     subst (λ l. Judged (60 ∷ l) p) (sym e)
-    (stray-at p (60 ∷ []) c rest (p + 1) (λ more. start_nofirst p c more (ap (λ l. eqb (get_or l 0 0) 47) (sym e) ∙ s) h) (start (97 ∷ []), letter, 97, 62 ∷ [], refl) (short_front _ c (omega arith)) refl)
+    (stray_at p (60 ∷ []) c rest (p + 1) (λ more. start_nofirst p c more (ap (λ l. eqb (get_or l 0 0) 47) (sym e) ∙ s) h) (start (97 ∷ []), letter, 97, 62 ∷ [], refl) (short_front _ c (omega arith)) refl)
 judge_start p cs s (overlong n c rest e l h b) =
-    subst (λ l. Judged (60 ∷ l) p) (sym e) (long-at p (60 ∷ n) c rest (p + 1 + 32) (start-long p n l c rest h b) (n, l, h, b, inl refl) (omega arith))
-judge_start p cs s (cut l) = ends_at p (60 ∷ cs) (p + 1 + length cs) (start-cut p cs l) (start cs, l, 62, [], refl) (omega arith)
+    subst (λ l. Judged (60 ∷ l) p) (sym e) (long_at p (60 ∷ n) c rest (p + 1 + 32) (start_long p n l c rest h b) (n, l, h, b, inl refl) (omega arith))
+judge_start p cs s (cut l) = ends_at p (60 ∷ cs) (p + 1 + length cs) (start_cut p cs l) (start cs, l, 62, [], refl) (omega arith)
 judge_start p cs s (full n c rest e l b) =
     subst (λ l. Judged (60 ∷ l) p) (sym e)
     (⊎_elim
@@ -118,7 +118,7 @@ judge_start p cs s (full n c rest e l b) =
     ⊎_elim
     (λ (y : eqb c 47 ≡ true). subst (λ y. Judged (60 ∷ n ++ y ∷ rest) p) (sym (eqb-true c 47 y)) (judge_slash p n rest l))
     (λ (y : eqb c 47 ≡ false).
-    stray-at p (60 ∷ n) c rest (p + 1 + length n) (λ more. start_bad p n l c more b x y) (start n, l, 62, [], refl) (λ o. true≢false (sym o.3 ∙ b)) (omega arith))
+    stray_at p (60 ∷ n) c rest (p + 1 + length n) (λ more. start_bad p n l c more b x y) (start n, l, 62, [], refl) (λ o. true≢false (sym o.3 ∙ b)) (omega arith))
     (cases_Bool (eqb c 47)))
     (cases_Bool (eqb c 62)))
 
@@ -137,7 +137,7 @@ pub bad_tag : (p : ℕ) (bs : List ℕ) (f : Fault) → item_at p (60 ∷ bs) �
 unfolding Judged
 bad_tag p bs f e =
     ⊎_elim (λ j. subst (BadTag (60 ∷ bs) p) (err_same j.0 f (sym j.1 ∙ e)) j.2)
-    (λ t. absurd (ok-not-err _ f (sym (tag_at p t.0 t.2 t.1) ∙ ap (item_at p) (sym t.3) ∙ e)))
+    (λ t. absurd (ok_not_err _ f (sym (tag_at p t.0 t.2 t.1) ∙ ap (item_at p) (sym t.3) ∙ e)))
     (judged p bs)
 
 -- The other way round: there is one place only.
@@ -187,18 +187,18 @@ overlong_opens xs c o =
 overlong_unfits : (xs : List ℕ) (c : ℕ) → Overlong xs c → TagFront (xs ++ c ∷ []) → ⊥
 overlong_unfits xs c o =
     ⊎_elim
-    (λ (e : xs ≡ 60 ∷ o.0). unfits 0 xs c _ (λ more. ap (λ l. item_at 0 (l ++ c ∷ more)) e ∙ start-long 0 o.0 o.1 c more o.2 o.3))
-    (λ (e : xs ≡ 60 ∷ 47 ∷ o.0). unfits 0 xs c _ (λ more. ap (λ l. item_at 0 (l ++ c ∷ more)) e ∙ end-long 0 o.0 o.1 c more o.2 o.3))
+    (λ (e : xs ≡ 60 ∷ o.0). unfits 0 xs c _ (λ more. ap (λ l. item_at 0 (l ++ c ∷ more)) e ∙ start_long 0 o.0 o.1 c more o.2 o.3))
+    (λ (e : xs ≡ 60 ∷ 47 ∷ o.0). unfits 0 xs c _ (λ more. ap (λ l. item_at 0 (l ++ c ∷ more)) e ∙ end_long 0 o.0 o.1 c more o.2 o.3))
     o.4
 
-cut-ends : (bs : List ℕ) → Opens bs → CutAt bs bs
-cut-ends bs o = record { opens = o; tail = inl refl }
+cut_ends : (bs : List ℕ) → Opens bs → CutAt bs bs
+cut_ends bs o = record { opens = o; tail = inl refl }
 
-cut-stray : (bs xs : List ℕ) (c : ℕ) (rest : List ℕ) → bs ≡ xs ++ c ∷ rest → Opens xs → (TagFront (xs ++ c ∷ []) → ⊥) → CutAt bs xs
-cut-stray bs xs c rest e o n = record { opens = o; tail = inr (c, rest, e, n) }
+cut_stray : (bs xs : List ℕ) (c : ℕ) (rest : List ℕ) → bs ≡ xs ++ c ∷ rest → Opens xs → (TagFront (xs ++ c ∷ []) → ⊥) → CutAt bs xs
+cut_stray bs xs c rest e o n = record { opens = o; tail = inr (c, rest, e, n) }
 
-cut-long : (bs xs : List ℕ) (c : ℕ) (rest : List ℕ) → bs ≡ xs ++ c ∷ rest → Overlong xs c → CutAt bs xs
-cut-long bs xs c rest e o = cut-stray bs xs c rest e (overlong_opens xs c o) (overlong_unfits xs c o)
+cut_long : (bs xs : List ℕ) (c : ℕ) (rest : List ℕ) → bs ≡ xs ++ c ∷ rest → Overlong xs c → CutAt bs xs
+cut_long bs xs c rest e o = cut_stray bs xs c rest e (overlong_opens xs c o) (overlong_unfits xs c o)
 
 same_front : (xs ys : List ℕ) (c d : ℕ) (r t : List ℕ) → xs ++ c ∷ r ≡ ys ++ d ∷ t → length xs ≡ length ys → Overlong ys d → Overlong xs c
 same_front xs ys c d r t e h o =
@@ -213,18 +213,18 @@ longer bs xs c rest e h = omega (arith, ap (λ l. length l) e, length-append xs 
 
 bad_same : (bs : List ℕ) (p : ℕ) (f g : Fault) → BadTag bs p f → BadTag bs p g → f ≡ g
 bad_same bs p f g (ends o e) (ends u i) = e ∙ sym i
-bad_same bs p f g (ends o e) (stray ys d t x u n v i) = absurd (longer bs ys d t x (one_place bs bs ys (cut-ends bs o) (cut-stray bs ys d t x u n)))
-bad_same bs p f g (ends o e) (long ys d t x u i) = absurd (longer bs ys d t x (one_place bs bs ys (cut-ends bs o) (cut-long bs ys d t x u)))
-bad_same bs p f g (stray xs c r w o m q e) (ends u i) = absurd (longer bs xs c r w (one_place bs bs xs (cut-ends bs u) (cut-stray bs xs c r w o m)))
+bad_same bs p f g (ends o e) (stray ys d t x u n v i) = absurd (longer bs ys d t x (one_place bs bs ys (cut_ends bs o) (cut_stray bs ys d t x u n)))
+bad_same bs p f g (ends o e) (long ys d t x u i) = absurd (longer bs ys d t x (one_place bs bs ys (cut_ends bs o) (cut_long bs ys d t x u)))
+bad_same bs p f g (stray xs c r w o m q e) (ends u i) = absurd (longer bs xs c r w (one_place bs bs xs (cut_ends bs u) (cut_stray bs xs c r w o m)))
 bad_same bs p f g (stray xs c r w o m q e) (stray ys d t x u n v i) =
-    e ∙ ap (λ k. fault Stray (p + k)) (one_place bs xs ys (cut-stray bs xs c r w o m) (cut-stray bs ys d t x u n)) ∙ sym i
+    e ∙ ap (λ k. fault Stray (p + k)) (one_place bs xs ys (cut_stray bs xs c r w o m) (cut_stray bs ys d t x u n)) ∙ sym i
 bad_same bs p f g (stray xs c r w o m q e) (long ys d t x u i) =
-    absurd (q (same_front xs ys c d r t (sym w ∙ x) (one_place bs xs ys (cut-stray bs xs c r w o m) (cut-long bs ys d t x u)) u))
-bad_same bs p f g (long xs c r w o e) (ends u i) = absurd (longer bs xs c r w (one_place bs bs xs (cut-ends bs u) (cut-long bs xs c r w o)))
+    absurd (q (same_front xs ys c d r t (sym w ∙ x) (one_place bs xs ys (cut_stray bs xs c r w o m) (cut_long bs ys d t x u)) u))
+bad_same bs p f g (long xs c r w o e) (ends u i) = absurd (longer bs xs c r w (one_place bs bs xs (cut_ends bs u) (cut_long bs xs c r w o)))
 bad_same bs p f g (long xs c r w o e) (stray ys d t x u n v i) =
-    absurd (v (same_front ys xs d c t r (sym x ∙ w) (one_place bs ys xs (cut-stray bs ys d t x u n) (cut-long bs xs c r w o)) o))
+    absurd (v (same_front ys xs d c t r (sym x ∙ w) (one_place bs ys xs (cut_stray bs ys d t x u n) (cut_long bs xs c r w o)) o))
 bad_same bs p f g (long xs c r w o e) (long ys d t x u i) =
-    e ∙ ap (λ k. fault BookNameTooLong (p + k)) (one_place bs xs ys (cut-long bs xs c r w o) (cut-long bs ys d t x u)) ∙ sym i
+    e ∙ ap (λ k. fault BookNameTooLong (p + k)) (one_place bs xs ys (cut_long bs xs c r w o) (cut_long bs ys d t x u)) ∙ sym i
 
 same_item : (i j : Item) → ◌≡◌ {A = Result Item Fault} (Ok i) (Ok j) → i ≡ j
 same_item i j e = cc
@@ -245,9 +245,9 @@ not_tag xs rest i t a =
     (cases_lt (length xs) (length (spelling i)))
 
 not_bad : (bs rest : List ℕ) (p : ℕ) (f : Fault) (i : Item) → Tag i → bs ≡ spelling i ++ rest → BadTag bs p f → ⊥
-not_bad bs rest p f i t e (ends o x) = not_tag bs rest i t (subst (λ l. CutAt l bs) e (cut-ends bs o))
-not_bad bs rest p f i t e (stray xs c r w o m q x) = not_tag xs rest i t (subst (λ l. CutAt l xs) e (cut-stray bs xs c r w o m))
-not_bad bs rest p f i t e (long xs c r w o x) = not_tag xs rest i t (subst (λ l. CutAt l xs) e (cut-long bs xs c r w o))
+not_bad bs rest p f i t e (ends o x) = not_tag bs rest i t (subst (λ l. CutAt l bs) e (cut_ends bs o))
+not_bad bs rest p f i t e (stray xs c r w o m q x) = not_tag xs rest i t (subst (λ l. CutAt l xs) e (cut_stray bs xs c r w o m))
+not_bad bs rest p f i t e (long xs c r w o x) = not_tag xs rest i t (subst (λ l. CutAt l xs) e (cut_long bs xs c r w o))
 
 pub bad_refused : (p : ℕ) (bs : List ℕ) (f : Fault) → BadTag (60 ∷ bs) p f → item_at p (60 ∷ bs) ≡ Err f
 unfolding Judged

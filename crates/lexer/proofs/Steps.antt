@@ -25,8 +25,8 @@ module _ (bs : List ℕ) (p : ℕ) where
   more h = omega (arith, length-drop p bs)
 
   -- bytes that stand `skip` bytes behind p
-  cut-behind : (skip q : ℕ) (n ys : List ℕ) → drop skip (drop p bs) ≡ n ++ ys → q ≡ p + skip → take (length n) (drop q bs) ≡ n
-  cut-behind skip q n ys e is = ap (λ k. take (length n) (drop k bs)) is ∙ ap (take (length n)) (sym (drop-drop skip p bs) ∙ e) ∙ take-append_seam n ys
+  cut_behind : (skip q : ℕ) (n ys : List ℕ) → drop skip (drop p bs) ≡ n ++ ys → q ≡ p + skip → take (length n) (drop q bs) ≡ n
+  cut_behind skip q n ys e is = ap (λ k. take (length n) (drop k bs)) is ∙ ap (take (length n)) (sym (drop-drop skip p bs) ∙ e) ∙ take-append_seam n ys
 
   module _ (t : Token) (h : p < length bs) (f : Finds p (item_at p (drop p bs)) (Ok t)) where
     front : ItemFront (drop p bs) (item_of t)
@@ -38,33 +38,33 @@ module _ (bs : List ℕ) (p : ℕ) where
     pub next_moved : p + length (whole_of t).bytes.now ≡ p + length (spelling (item_of t))
     next_moved = ap (λ l. p + length l) f.1.whole
 
-    pub next-within : p + length (whole_of t).bytes.now ≤ length bs
-    next-within = omega (arith, next_moved, front_within (drop p bs) (item_of t) front, length-drop p bs)
+    pub next_within : p + length (whole_of t).bytes.now ≤ length bs
+    next_within = omega (arith, next_moved, front_within (drop p bs) (item_of t) front, length-drop p bs)
 
-    whole-cut : Cut bs (whole_of t)
-    whole-cut =
+    whole_cut : Cut bs (whole_of t)
+    whole_cut =
         (λ i. take (length (f.1.whole i)) (drop (f.1.place i) bs)) ∙ front_taken (drop p bs) (item_of t) front ∙ sym f.1.whole
 
-  name-cut : (t : Token) (h : p < length bs) (f : Finds p (item_at p (drop p bs)) (Ok t)) → NameCut bs t
-  name-cut (Start t) h f =
+  name_cut : (t : Token) (h : p < length bs) (f : Finds p (item_at p (drop p bs)) (Ok t)) → NameCut bs t
+  name_cut (Start t) h f =
       let g = front (Start t) h f in
       let n = t.name.bytes.now in
-      cut-behind 1 t.name.place n (62 ∷ [] ++ g.rest) (ap (drop 1) g.spelled ∙ append_assoc n (62 ∷ []) g.rest) f.1.name
-  name-cut (End t) h f =
+      cut_behind 1 t.name.place n (62 ∷ [] ++ g.rest) (ap (drop 1) g.spelled ∙ append_assoc n (62 ∷ []) g.rest) f.1.name
+  name_cut (End t) h f =
       let g = front (End t) h f in
       let n = t.name.bytes.now in
-      cut-behind 2 t.name.place n (62 ∷ [] ++ g.rest) (ap (drop 2) g.spelled ∙ append_assoc n (62 ∷ []) g.rest) f.1.name
-  name-cut (Empty t) h f =
+      cut_behind 2 t.name.place n (62 ∷ [] ++ g.rest) (ap (drop 2) g.spelled ∙ append_assoc n (62 ∷ []) g.rest) f.1.name
+  name_cut (Empty t) h f =
       let g = front (Empty t) h f in
       let n = t.name.bytes.now in
-      cut-behind 1 t.name.place n (47 ∷ 62 ∷ [] ++ g.rest) (ap (drop 1) g.spelled ∙ append_assoc n (47 ∷ 62 ∷ []) g.rest) f.1.name
-  name-cut (Text run) h f = tt
+      cut_behind 1 t.name.place n (47 ∷ 62 ∷ [] ++ g.rest) (ap (drop 1) g.spelled ∙ append_assoc n (47 ∷ 62 ∷ []) g.rest) f.1.name
+  name_cut (Text run) h f = tt
 
   pub next_parts : (t : Token) (h : p < length bs) (f : Finds p (item_at p (drop p bs)) (Ok t)) → HandsOut bs p t
-  next_parts t h f = record { written = f.1; whole = whole-cut t h f; name = name-cut t h f }
+  next_parts t h f = record { written = f.1; whole = whole_cut t h f; name = name_cut t h f }
 
-  pub next-refused : (f : Fault) → p < length bs → item_at p (drop p bs) ≡ Err f → Err f ≡ lex p (drop p bs)
-  next-refused f h e = sym (lex_item p (drop p bs) (more h) ∙ ap (λ r. and_then r (λ i. Ok (Some i))) e)
+  pub next_refused : (f : Fault) → p < length bs → item_at p (drop p bs) ≡ Err f → Err f ≡ lex p (drop p bs)
+  next_refused f h e = sym (lex_item p (drop p bs) (more h) ∙ ap (λ r. and_then r (λ i. Ok (Some i))) e)
 
-  pub next-ended : p ≡ length bs → Ok None ≡ lex p (drop p bs)
-  next-ended h = sym (ap (lex p) (drop_all p bs (omega arith)))
+  pub next_ended : p ≡ length bs → Ok None ≡ lex p (drop p bs)
+  next_ended h = sym (ap (lex p) (drop_all p bs (omega arith)))

@@ -16,51 +16,51 @@ module _ (n : List ℕ) (l : LawfulName n) (c : ℕ) (rest : List ℕ) where
   first_same : get_or (n ++ c ∷ rest) 0 0 ≡ get_or n 0 0
   first_same = get_or-append n (c ∷ rest) 0 0 l.some
 
-  pub name-at : (p : ℕ) → name_byte c ≡ false → name_at p (n ++ c ∷ rest) ≡ Ok (length n)
-  name-at p e =
+  pub name_at_lem : (p : ℕ) → name_byte c ≡ false → name_at p (n ++ c ∷ rest) ≡ Ok (length n)
+  name_at_lem p e =
       let k = leading_stop name_byte n c rest l.each e in
       let few : prefix_len name_byte (n ++ c ∷ rest) ≤ 32 = omega (arith, l.short) in
       cond-true _ _ _ (ap name_first first_same ∙ l.first)
       ∙ cond-true _ _ _ (le-leb _ _ few)
       ∙ ap Ok k
 
-  pub not-slash : eqb (get_or (n ++ c ∷ rest) 0 0) 47 ≡ false
-  not-slash = ne_eqb _ _ (λ e. absurd (true≢false (sym l.first ∙ ap name_first (sym first_same ∙ e))))
+  pub not_slash : eqb (get_or (n ++ c ∷ rest) 0 0) 47 ≡ false
+  not_slash = ne_eqb _ _ (λ e. absurd (true≢false (sym l.first ∙ ap name_first (sym first_same ∙ e))))
 
-start-at : (p : ℕ) (n : List ℕ) (rest : List ℕ) → LawfulName n → start_tag p (n ++ 62 ∷ rest) ≡ Ok (start n)
-start-at p n rest l =
-    ap (λ r. and_then r (start_tail p (n ++ 62 ∷ rest))) (name-at n l 62 rest (p + 1) refl)
+start_at : (p : ℕ) (n : List ℕ) (rest : List ℕ) → LawfulName n → start_tag p (n ++ 62 ∷ rest) ≡ Ok (start n)
+start_at p n rest l =
+    ap (λ r. and_then r (start_tail p (n ++ 62 ∷ rest))) (name_at_lem n l 62 rest (p + 1) refl)
     ∙ cond-true _ _ _ (eq-eqb _ _ (get_or-append_seam n 62 rest 0))
     ∙ ap (λ x. Ok (start x)) (take-append_seam n (62 ∷ rest))
 
-empty-at : (p : ℕ) (n : List ℕ) (rest : List ℕ) → LawfulName n → start_tag p (n ++ 47 ∷ 62 ∷ rest) ≡ Ok (empty n)
-empty-at p n rest l =
+empty_at : (p : ℕ) (n : List ℕ) (rest : List ℕ) → LawfulName n → start_tag p (n ++ 47 ∷ 62 ∷ rest) ≡ Ok (empty n)
+empty_at p n rest l =
     let bs = n ++ 47 ∷ 62 ∷ rest in
     let at : get_or bs (length n) 0 ≡ 47 = get_or-append_seam n 47 (62 ∷ rest) 0 in
-    ap (λ r. and_then r (start_tail p bs)) (name-at n l 47 (62 ∷ rest) (p + 1) refl)
+    ap (λ r. and_then r (start_tail p bs)) (name_at_lem n l 47 (62 ∷ rest) (p + 1) refl)
     ∙ cond-false _ _ _ (ap (λ x. eqb x 62) at)
     ∙ cond-true _ _ _ (eq-eqb _ _ at)
     ∙ cond-true _ _ _ (eq-eqb _ _ (get_or-append-add n (47 ∷ 62 ∷ rest) 1 0))
     ∙ ap (λ x. Ok (empty x)) (take-append_seam n (47 ∷ 62 ∷ rest))
 
-end-at : (p : ℕ) (n : List ℕ) (rest : List ℕ) → LawfulName n → end_tag p (n ++ 62 ∷ rest) ≡ Ok (end n)
-end-at p n rest l =
+end_at : (p : ℕ) (n : List ℕ) (rest : List ℕ) → LawfulName n → end_tag p (n ++ 62 ∷ rest) ≡ Ok (end n)
+end_at p n rest l =
     let bs = n ++ 62 ∷ rest in
-    ap (λ r. and_then r (end_tail p bs)) (name-at n l 62 rest (p + 2) refl)
+    ap (λ r. and_then r (end_tail p bs)) (name_at_lem n l 62 rest (p + 2) refl)
     ∙ cond-true _ _ _ (eq-eqb _ _ (get_or-append_seam n 62 rest 0))
     ∙ ap (λ x. Ok (end x)) (take-append_seam n (62 ∷ rest))
 
 -- a tag is read as it is written
 pub tag_at : (p : ℕ) (i : Item) (rest : List ℕ) → Tag i → item_at p (spelling i ++ rest) ≡ Ok i
-tag_at p (start n) rest l = ap (λ bs. item_at p (60 ∷ bs)) (append_assoc n (62 ∷ []) rest) ∙ cond-false _ _ _ (not-slash n l 62 rest) ∙ start-at p n rest l
+tag_at p (start n) rest l = ap (λ bs. item_at p (60 ∷ bs)) (append_assoc n (62 ∷ []) rest) ∙ cond-false _ _ _ (not_slash n l 62 rest) ∙ start_at p n rest l
 tag_at p (empty n) rest l =
-    ap (λ bs. item_at p (60 ∷ bs)) (append_assoc n (47 ∷ 62 ∷ []) rest) ∙ cond-false _ _ _ (not-slash n l 47 (62 ∷ rest)) ∙ empty-at p n rest l
-tag_at p (end n) rest l = ap (λ bs. item_at p (60 ∷ 47 ∷ bs)) (append_assoc n (62 ∷ []) rest) ∙ end-at p n rest l
+    ap (λ bs. item_at p (60 ∷ bs)) (append_assoc n (47 ∷ 62 ∷ []) rest) ∙ cond-false _ _ _ (not_slash n l 47 (62 ∷ rest)) ∙ empty_at p n rest l
+tag_at p (end n) rest l = ap (λ bs. item_at p (60 ∷ 47 ∷ bs)) (append_assoc n (62 ∷ []) rest) ∙ end_at p n rest l
 tag_at p (text bs) rest l = absurd l
 
 -- and what is read as a tag is one
-name-lawful : (p : ℕ) (bs : List ℕ) → Granted (λ n. LawfulName (take n bs)) (name_at p bs)
-name-lawful p bs =
+name_lawful : (p : ℕ) (bs : List ℕ) → Granted (λ n. LawfulName (take n bs)) (name_at p bs)
+name_lawful p bs =
     either (name_first (get_or bs 0 0)) _ _
     (λ f. either (leb (prefix_len name_byte bs) 32) _ _ (λ h. grant _ (name_of bs f (leb-true _ _ h))) (λ _. refuse _))
     (λ _. refuse _)
@@ -68,8 +68,8 @@ name-lawful p bs =
 pub tagged : (p : ℕ) (bs : List ℕ) → Granted Tag (item_at p (60 ∷ bs))
 tagged p bs =
     either (eqb (get_or bs 0 0) 47) _ _
-    (λ _. chain _ (name_at (p + 2) (drop 1 bs)) (end_tail p (drop 1 bs)) (name-lawful (p + 2) (drop 1 bs))
+    (λ _. chain _ (name_at (p + 2) (drop 1 bs)) (end_tail p (drop 1 bs)) (name_lawful (p + 2) (drop 1 bs))
     (λ n h. either (eqb (get_or (drop 1 bs) n 0) 62) _ _ (λ _. grant _ h) (λ _. refuse _)))
-    (λ _. chain _ (name_at (p + 1) bs) (start_tail p bs) (name-lawful (p + 1) bs)
+    (λ _. chain _ (name_at (p + 1) bs) (start_tail p bs) (name_lawful (p + 1) bs)
     (λ n h. either (eqb (get_or bs n 0) 62) _ _ (λ _. grant _ h)
     (λ _. either (eqb (get_or bs n 0) 47) _ _ (λ _. either (eqb (get_or bs (n + 1) 0) 62) _ _ (λ _. grant _ h) (λ _. refuse _)) (λ _. refuse _))))

@@ -22,9 +22,9 @@ name_of (b ∷ bs) f h =
     }
 
 -- a lawful name is one run of name bytes
-pub name-run : (name : List ℕ) → LawfulName name → prefix_len name_byte name ≡ length name
-name-run name l = leading_all name_byte name l.each
+pub name_run : (name : List ℕ) → LawfulName name → prefix_len name_byte name ≡ length name
+name_run name l = leading_all name_byte name l.each
 
-pub name-from-run : (name : List ℕ) → length name ≤ 32 → name_first (get_or name 0 0) ≡ true → prefix_len name_byte name ≡ length name → LawfulName name
-name-from-run [] short first run = absurd (true≢false (sym first))
-name-from-run (b ∷ name) short first run = record { some = omega arith; short = short; first = first; each = all_from_leading name_byte (b ∷ name) run }
+pub name_from_run : (name : List ℕ) → length name ≤ 32 → name_first (get_or name 0 0) ≡ true → prefix_len name_byte name ≡ length name → LawfulName name
+name_from_run [] short first run = absurd (true≢false (sym first))
+name_from_run (b ∷ name) short first run = record { some = omega arith; short = short; first = first; each = all_from_leading name_byte (b ∷ name) run }

@@ -13,7 +13,7 @@ use Rattle.std.specs.List.{AllByRecursion as Every}
 use Rattle.markup.specs.Name.{name_first, name_byte, NameWithin}
 use Rattle.markup.proofs.Names.{first_is_byte}
 use Rattle.pattern.specs.Shape.{Vertex, Shape, node}
-use Rattle.pattern.specs.Reading.{State, Phase, nothing, lead, edge, slash, bracket, dot, dot-slash, inside, step, Move, granted, Limits, limits, next_in, beyond_in, begin_in, close, finish, feed, run_in, start, reads, read_pattern}
+use Rattle.pattern.specs.Reading.{State, Phase, nothing, lead, edge, slash, bracket, dot, dot_slash, inside, step, Move, granted, Limits, limits, next_in, beyond_in, begin_in, close, finish, feed, run_in, start, reads, read_pattern}
 use Rattle.pattern.specs.Spelling.{lead_text, open_text}
 use Rattle.pattern.proofs.Tails.{Tail, end, onward, branch, text_of, nodes_of_tail, size, Within, DerivesTail}
 use Rattle.pattern.proofs.Sound.{at, shape, deeper}
@@ -68,7 +68,7 @@ module _ (l : Limits) (some : 0 < l.bytes) where
   Fits m₀ slash hs h n bs m vs = (m₀ ≡ m) × (e : Edge) × (more : List ℕ) × (47 ∷ bs ≡ open_text false e ++ more) × Name e hs h n more vs
   Fits m₀ bracket hs h n bs m vs = (m₀ ≡ m) × (e : Edge) × (more : List ℕ) × (91 ∷ bs ≡ open_text true e ++ more) × Name e hs h n more vs
   Fits m₀ dot hs h n bs m vs = (m₀ ≡ m) × (more : List ℕ) × (bs ≡ 47 ∷ 47 ∷ more) × Name Descendant hs h n more vs
-  Fits m₀ dot-slash hs h n bs m vs = (m₀ ≡ m) × (more : List ℕ) × (bs ≡ 47 ∷ more) × Name Descendant hs h n more vs
+  Fits m₀ dot_slash hs h n bs m vs = (m₀ ≡ m) × (more : List ℕ) × (bs ≡ 47 ∷ more) × Name Descendant hs h n more vs
   Fits m₀ (inside e a) hs h n bs m vs =
       (m₀ ≡ m) × (cs : List ℕ) × (more : List ℕ) × (ws : List Vertex) × (bs ≡ cs ++ more) × (vs ≡ node (a ++ cs) h e ∷ ws) × Room (length a) cs × After hs n (n + 1) more ws
   Fits m₀ step hs h n bs m vs = (m₀ ≡ m) × After hs h n bs vs
@@ -192,10 +192,10 @@ module _ (l : Limits) (some : 0 < l.bytes) where
         record { more = f.more; nodes = f.nodes; fits = (f.fits.0, Descendant, f.fits.1, (λ z. 91 ∷ eqb-true b 46 is z ∷ f.fits.2 z), f.fits.3) })
         (λ _ x. let g = begins bs ih m₀ ns h hs k b m vs bracket Child x in record { more = g.0; nodes = g.1; fits = (g.2, Child, b ∷ bs, refl, g.3) })
     nexts dot = on_cond k (eqb b 47) _ _ _ _
-        (λ is x. let f = ih m₀ ns h hs dot-slash (k + 1) m vs x in
+        (λ is x. let f = ih m₀ ns h hs dot_slash (k + 1) m vs x in
         record { more = f.more; nodes = f.nodes; fits = (f.fits.0, f.fits.1, (λ z. eqb-true b 47 is z ∷ f.fits.2 z), f.fits.3) })
         (λ _ x. no_grant x)
-    nexts dot-slash = on_cond k (eqb b 47) _ _ _ _
+    nexts dot_slash = on_cond k (eqb b 47) _ _ _ _
         (λ is x. let f = ih m₀ ns h hs (edge Descendant) (k + 1) m vs x in
         record { more = f.more; nodes = f.nodes; fits = (f.fits.0, bs, ap (λ y. y ∷ bs) (eqb-true b 47 is), f.fits.1) })
         (λ _ x. no_grant x)
@@ -218,7 +218,7 @@ module _ (l : Limits) (some : 0 < l.bytes) where
   finishes m₀ ns h k m vs slash hs x = no_grant x
   finishes m₀ ns h k m vs bracket hs x = no_grant x
   finishes m₀ ns h k m vs dot hs x = no_grant x
-  finishes m₀ ns h k m vs dot-slash hs x = no_grant x
+  finishes m₀ ns h k m vs dot_slash hs x = no_grant x
   finishes m₀ ns h k m vs (inside e a) [] x =
       let v = node a h e in
       record { more = v ∷ []; nodes = sym (same_list _ _ _ _ x); fits = (same_mark _ _ _ _ x, [], [], [], refl, ap (λ y. node y h e ∷ []) (sym (append-nil a)), tt, (end, refl, refl, tt)) }
@@ -247,9 +247,9 @@ module _ (l : Limits) (some : 0 < l.bytes) where
         nodes = f.nodes ∙ n.4 ∙ ap (λ y. node n.0 0 Child ∷ y) r.2;
       }
 
-long-or : (b : Bool) (o : Result Shape Fault) (f : Fault) (m : Mark) (vs : List Vertex) → cond b o (Err f) ≡ granted m vs → (b ≡ true) × (o ≡ granted m vs)
-long-or true o f m vs x = (refl, x)
-long-or false o f m vs x = no_grant x
+long_or : (b : Bool) (o : Result Shape Fault) (f : Fault) (m : Mark) (vs : List Vertex) → cond b o (Err f) ≡ granted m vs → (b ≡ true) × (o ≡ granted m vs)
+long_or true o f m vs x = (refl, x)
+long_or false o f m vs x = no_grant x
 
 pub exact_reads : (t : List ℕ) (m : Mark) (vs : List Vertex) → reads t start 0 ≡ granted m vs → DerivesTail limits t m vs
 unfolding reads
@@ -257,7 +257,7 @@ exact_reads t m vs x = exact_in limits (omega arith) t m vs x
 
 pub exact : (t : List ℕ) (m : Mark) (vs : List Vertex) → read_pattern t ≡ granted m vs → (length t ≤ 1024) × DerivesTail limits t m vs
 exact t m vs x =
-    let l = long-or (leb (length t) 1024) (run_in limits start 0 t) (fault PatternTooLong 1024) m vs x in
+    let l = long_or (leb (length t) 1024) (run_in limits start 0 t) (fault PatternTooLong 1024) m vs x in
     (leb-true _ 1024 l.0, exact_in limits (omega arith) t m vs l.1)
 
 -- a text that is not too long

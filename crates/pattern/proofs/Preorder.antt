@@ -162,7 +162,7 @@ from_preorder v vs root edge few names p =
       few = omega arith;
       named = names;
       root = root;
-      root-edge = edge;
+      root_edge = edge;
       lower = λ c x y. (o c x y).0;
       runs = λ b c y l r. let x : 0 < c = omega (arith, r) in (o c x y).1 b l r;
     }

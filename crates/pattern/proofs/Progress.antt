@@ -75,8 +75,8 @@ abbrev after_lead : Mark → State
 after_lead m = record { mark = m; nodes = []; holder = 0; brackets = []; phase = edge Child }
 
 module _ (t : List ℕ) (i : ℕ) where
-  pub lead-not : (f : Fault) → (Sees t i 47 → ⊥) × (f ≡ fault Misfit i) → reads t start i ≡ Err f
-  lead-not f a = stray t start i 47 _ a.0 (λ b. refl) refl ∙ ap Err (sym a.1)
+  pub lead_not : (f : Fault) → (Sees t i 47 → ⊥) × (f ≡ fault Misfit i) → reads t start i ≡ Err f
+  lead_not f a = stray t start i 47 _ a.0 (λ b. refl) refl ∙ ap Err (sym a.1)
 
   -- with the text t' after the first `/`
   module _ (t' : List ℕ) (j : ℕ) (a : Sees t i 47 × (j ≡ i + 1)) (text : t' ≡ t) where
@@ -104,7 +104,7 @@ same_cond false x = refl
 pub ended : (x : Reader) (m : Mark) (k : ℕ) → length x.text.now ≤ x.at → outcome x m k [] step ≡ granted m (vertices x.nodes x.len)
 ended x m k h = over _ _ x.at h
 
-pub ended-not : (x : Reader) (m : Mark) (k : ℕ) (f : Fault) → (Next x 91 → ⊥) × (Next x 47 → ⊥) → (x.at < length x.text.now) × (f ≡ fault Misfit x.at) → outcome x m k [] step ≡ Err f
-ended-not x m k f n a =
+pub ended_not : (x : Reader) (m : Mark) (k : ℕ) (f : Fault) → (Next x 91 → ⊥) × (Next x 47 → ⊥) → (x.at < length x.text.now) × (f ≡ fault Misfit x.at) → outcome x m k [] step ≡ Err f
+ended_not x m k f n a =
     by _ _ x.at a.0 (cond-false _ _ _ (ne_eqb _ 47 (λ e. n.1 (a.0, e))) ∙ cond-false _ _ _ (ne_eqb _ 91 (λ e. n.0 (a.0, e))) ∙ same_cond _ (stop Misfit))
     ∙ ap Err (sym a.1)

@@ -41,7 +41,7 @@ lawful_prop nodes x y i = record {
   few = le_prop x.few y.few i;
   named = all_prop _ (λ (v : Vertex). name_prop v.name) nodes x.named y.named i;
   root = ℕ_set _ _ x.root y.root i;
-  root-edge = hedberg edge_discrete _ _ x.root-edge y.root-edge i;
+  root_edge = hedberg edge_discrete _ _ x.root_edge y.root_edge i;
   lower = λ c p l. le_prop (x.lower c p l) (y.lower c p l) i;
   runs = λ b c l p q. le_prop (x.runs b c l p q) (y.runs b c l p q) i;
 }

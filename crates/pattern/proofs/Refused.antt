@@ -13,7 +13,7 @@ use Rattle.pattern.specs.declared.node.Edge.TheVariants.{Child, Descendant}
 use Rattle.pattern.specs.declared.node.Mark.{Mark}
 use Rattle.pattern.specs.declared.node.Mark.TheVariants.{Top}
 use Rattle.pattern.specs.Shape.{Vertex, Shape, node, shape}
-use Rattle.pattern.specs.Reading.{State, Phase, nothing, lead, edge, slash, bracket, dot, dot-slash, inside, step, Limits, limits, Move, go, stop, granted, refused, marked, settle, next_in, beyond_in, begin_in, close, complete, finish, feed, run_in, start, read_pattern}
+use Rattle.pattern.specs.Reading.{State, Phase, nothing, lead, edge, slash, bracket, dot, dot_slash, inside, step, Limits, limits, Move, go, stop, granted, refused, marked, settle, next_in, beyond_in, begin_in, close, complete, finish, feed, run_in, start, read_pattern}
 use Rattle.pattern.specs.Grammar.{Derives}
 use Rattle.pattern.specs.Places.{Pattern, Begins, BeginsIn, MisfitIsWhereNoPatternGoesOn, TooManyIsWhereMoreWouldFit, NameTooLongIsWhereLongerWouldFit}
 use Rattle.pattern.proofs.Tails.{Tail, end, onward, branch, size, Within, DerivesTail}
@@ -28,8 +28,8 @@ misfit_many e = omega (arith, ap number_of e)
 misfit_name : Misfit ≡ PatternNameTooLong → ⊥
 misfit_name e = omega (arith, ap number_of e)
 
-many-name : TooManySteps ≡ PatternNameTooLong → ⊥
-many-name e = omega (arith, ap number_of e)
+many_name : TooManySteps ≡ PatternNameTooLong → ⊥
+many_name e = omega (arith, ap number_of e)
 
 record Wider (l l' : Limits) : Type 0 where
   names : l.names ≤ l'.names
@@ -43,7 +43,7 @@ InName (edge e) = ⊥
 InName slash = ⊥
 InName bracket = ⊥
 InName dot = ⊥
-InName dot-slash = ⊥
+InName dot_slash = ⊥
 InName (inside e a) = Unit {0}
 InName step = ⊥
 
@@ -54,7 +54,7 @@ name_len (edge e) = 0
 name_len slash = 0
 name_len bracket = 0
 name_len dot = 0
-name_len dot-slash = 0
+name_len dot_slash = 0
 name_len (inside e a) = length a
 name_len step = 0
 
@@ -90,11 +90,11 @@ module _ {l : Limits} {s : State} {p : Phase} where
   strays = record { so = (λ _. refl, λ e. absurd (misfit_many e), λ e. absurd (misfit_name e)) }
 
   agree_many : (b b' : Bool) (x : State) → length x.nodes ≤ length s.nodes + 1 → (b ≡ false → b' ≡ false) → (Room l s → b' ≡ false) → Agree l s p (cond b (stop TooManySteps) (go x)) (cond b' (stop TooManySteps) (go x))
-  agree_many true b' x le w r = record { so = (λ e. absurd (misfit_many (sym e)), λ _ room. (x, cond-false _ _ _ (r room), le), λ e. absurd (many-name e)) }
+  agree_many true b' x le w r = record { so = (λ e. absurd (misfit_many (sym e)), λ _ room. (x, cond-false _ _ _ (r room), le), λ e. absurd (many_name e)) }
   agree_many false b' x le w r = record { so = cond-false _ _ _ (w refl) }
 
   agree_name : (b b' : Bool) (x : State) → InName p → InName x.phase → (b ≡ false → b' ≡ false) → (name_len p < l.bytes → b' ≡ false) → Agree l s p (cond b (stop PatternNameTooLong) (go x)) (cond b' (stop PatternNameTooLong) (go x))
-  agree_name true b' x now' then' w r = record { so = (λ e. absurd (misfit_name (sym e)), λ e. absurd (many-name (sym e)), λ _. (now', λ room. (x, cond-false _ _ _ (r room), then'))) }
+  agree_name true b' x now' then' w r = record { so = (λ e. absurd (misfit_name (sym e)), λ e. absurd (many_name (sym e)), λ _. (now', λ room. (x, cond-false _ _ _ (r room), then'))) }
   agree_name false b' x now' then' w r = record { so = cond-false _ _ _ (w refl) }
 
   agree_close : (u : State) (hs : List ℕ) → Agree l s p (close u hs) (close u hs)
@@ -118,7 +118,7 @@ module _ (l l' : Limits) (w : Wider l l') where
   agree s slash b = agree_cond (eqb b 47) _ _ _ _ (goes _) (agree_begin s slash s.mark s.phase Child b)
   agree s bracket b = agree_cond (eqb b 46) _ _ _ _ (goes _) (agree_begin s bracket s.mark s.phase Child b)
   agree s dot b = agree_cond (eqb b 47) _ _ _ _ (goes _) strays
-  agree s dot-slash b = agree_cond (eqb b 47) _ _ _ _ (goes _) strays
+  agree s dot_slash b = agree_cond (eqb b 47) _ _ _ _ (goes _) strays
   agree s (inside e a) b =
       agree_cond (name_byte b) _ _ _ _ (agree_name (leb l.bytes (length a)) (leb l'.bytes (length a)) _ tt tt (wider l.bytes l'.bytes (length a) w.bytes) (λ x. lt-leb _ _ x))
       (agree_beyond s (inside e a) (settle s e a) b (omega (arith, length_push s.nodes (node a s.holder e))) refl)
@@ -147,20 +147,20 @@ same_fault : (r r' : Refusal) (k k' : ℕ) → refused r k ≡ refused r' k' →
 unfolding fault_of
 same_fault r r' k k' e = (ap (λ x. (fault_of (fault r k) x).refusal) e, ap (λ x. (fault_of (fault r k) x).place) e)
 
-complete-place : (s : State) (hs : List ℕ) (k : ℕ) (r : Refusal) (j : ℕ) → complete s hs k ≡ refused r j → (Misfit ≡ r) × (k ≡ j)
-complete-place s [] k r j e = no_grant (sym e)
-complete-place s (h ∷ hs) k r j e = same_fault _ _ _ _ e
+complete_place : (s : State) (hs : List ℕ) (k : ℕ) (r : Refusal) (j : ℕ) → complete s hs k ≡ refused r j → (Misfit ≡ r) × (k ≡ j)
+complete_place s [] k r j e = no_grant (sym e)
+complete_place s (h ∷ hs) k r j e = same_fault _ _ _ _ e
 
-finish-place : (s : State) (p : Phase) (k : ℕ) (r : Refusal) (j : ℕ) → finish s p k ≡ refused r j → (Misfit ≡ r) × (k ≡ j)
-finish-place s nothing k r j e = same_fault _ _ _ _ e
-finish-place s lead k r j e = same_fault _ _ _ _ e
-finish-place s (edge x) k r j e = same_fault _ _ _ _ e
-finish-place s slash k r j e = same_fault _ _ _ _ e
-finish-place s bracket k r j e = same_fault _ _ _ _ e
-finish-place s dot k r j e = same_fault _ _ _ _ e
-finish-place s dot-slash k r j e = same_fault _ _ _ _ e
-finish-place s (inside x a) k r j e = complete-place (settle s x a) s.brackets k r j e
-finish-place s step k r j e = complete-place s s.brackets k r j e
+finish_place : (s : State) (p : Phase) (k : ℕ) (r : Refusal) (j : ℕ) → finish s p k ≡ refused r j → (Misfit ≡ r) × (k ≡ j)
+finish_place s nothing k r j e = same_fault _ _ _ _ e
+finish_place s lead k r j e = same_fault _ _ _ _ e
+finish_place s (edge x) k r j e = same_fault _ _ _ _ e
+finish_place s slash k r j e = same_fault _ _ _ _ e
+finish_place s bracket k r j e = same_fault _ _ _ _ e
+finish_place s dot k r j e = same_fault _ _ _ _ e
+finish_place s dot_slash k r j e = same_fault _ _ _ _ e
+finish_place s (inside x a) k r j e = complete_place (settle s x a) s.brackets k r j e
+finish_place s step k r j e = complete_place s s.brackets k r j e
 
 by_move : (s : State) (i b : ℕ) (bs : List ℕ) (r : Refusal) (j : ℕ) (m : Move) → next_in limits s s.phase b ≡ m → feed i m (λ t. run_in limits t (i + 1) bs) ≡ refused r j
     → ((t : State) → run_in limits t (i + 1) bs ≡ refused r j → Stopped t (i + 1) bs r j) → Stopped s i (b ∷ bs) r j
@@ -183,7 +183,7 @@ by_move s i b bs r j (stop g) e x ih =
 stopped : (bs : List ℕ) (s : State) (i : ℕ) (r : Refusal) (j : ℕ) → run_in limits s i bs ≡ refused r j → Stopped s i bs r j
 unfolding run_in
 stopped [] s i r j x =
-    let same = (finish-place s s.phase i r j x).1 in
+    let same = (finish_place s s.phase i r j x).1 in
     record { pre = []; post = []; state = s; parts = refl; number = sym same ∙ sym (add-zero i); along = λ l w more. ap (λ y. run_in l s y more) same; there = ap (λ y. finish s s.phase y) (sym same) ∙ x }
 stopped (b ∷ bs) s i r j x = by_move s i b bs r j (next_in limits s s.phase b) refl x (λ t y. stopped bs t (i + 1) r j y)
 
@@ -213,7 +213,7 @@ module _ (l : Limits) where
   completes slash m ns h hs few = (97 ∷ closers hs, m, ns ++ node (97 ∷ []) h Child ∷ [], λ i. ap (λ y. feed i y (λ u. run_in l u (i + 1) (closers hs))) (cond-false _ _ _ (lt-leb _ _ few)) ∙ named m ns h hs Child (97 ∷ []) (i + 1))
   completes bracket m ns h hs few = (97 ∷ closers hs, m, ns ++ node (97 ∷ []) h Child ∷ [], λ i. ap (λ y. feed i y (λ u. run_in l u (i + 1) (closers hs))) (cond-false _ _ _ (lt-leb _ _ few)) ∙ named m ns h hs Child (97 ∷ []) (i + 1))
   completes dot m ns h hs few = (47 ∷ 47 ∷ 97 ∷ closers hs, m, ns ++ node (97 ∷ []) h Descendant ∷ [], λ i. ap (λ y. feed (i + 1 + 1) y (λ u. run_in l u (i + 1 + 1 + 1) (closers hs))) (cond-false _ _ _ (lt-leb _ _ few)) ∙ named m ns h hs Descendant (97 ∷ []) (i + 1 + 1 + 1))
-  completes dot-slash m ns h hs few = (47 ∷ 97 ∷ closers hs, m, ns ++ node (97 ∷ []) h Descendant ∷ [], λ i. ap (λ y. feed (i + 1) y (λ u. run_in l u (i + 1 + 1) (closers hs))) (cond-false _ _ _ (lt-leb _ _ few)) ∙ named m ns h hs Descendant (97 ∷ []) (i + 1 + 1))
+  completes dot_slash m ns h hs few = (47 ∷ 97 ∷ closers hs, m, ns ++ node (97 ∷ []) h Descendant ∷ [], λ i. ap (λ y. feed (i + 1) y (λ u. run_in l u (i + 1 + 1) (closers hs))) (cond-false _ _ _ (lt-leb _ _ few)) ∙ named m ns h hs Descendant (97 ∷ []) (i + 1 + 1))
   completes (inside e a) m ns h hs few = (closers hs, m, ns ++ node a h e ∷ [], λ i. named m ns h hs e a i)
   completes step m ns h hs few = (closers hs, m, ns, λ i. closed m ns h hs i)
 
@@ -224,7 +224,7 @@ module _ (l : Limits) where
   in_name_completes slash m ns h hs i = absurd i
   in_name_completes bracket m ns h hs i = absurd i
   in_name_completes dot m ns h hs i = absurd i
-  in_name_completes dot-slash m ns h hs i = absurd i
+  in_name_completes dot_slash m ns h hs i = absurd i
   in_name_completes (inside e a) m ns h hs _ = (closers hs, m, ns ++ node a h e ∷ [], λ i. named m ns h hs e a i)
   in_name_completes step m ns h hs i = absurd i
 
@@ -264,8 +264,8 @@ longer s = record { names = 16; brackets = 8; bytes = 32 + name_len s.phase + 1 
 to_roomy : (s : State) → Wider limits (roomy s)
 to_roomy s = record { names = omega arith; brackets = omega arith; bytes = omega arith }
 
-to-longer : (s : State) → Wider limits (longer s)
-to-longer s = record { names = omega arith; brackets = omega arith; bytes = omega arith }
+to_longer : (s : State) → Wider limits (longer s)
+to_longer s = record { names = omega arith; brackets = omega arith; bytes = omega arith }
 
 -- a text that comes to a state that can be completed begins a pattern
 begins : (l : Limits) (s : State) (k : ℕ) (pre : List ℕ) → 0 < l.bytes → Completes l s.mark s.nodes s.holder s.brackets s.phase → ((w : List ℕ) → run_in l start 0 (pre ++ w) ≡ run_in l s k w) → BeginsIn l pre
@@ -287,22 +287,22 @@ module _ (t : List ℕ) (r : Refusal) (k : ℕ) (q : Stopped start 0 t r k) wher
   size_pre : k ≡ length q.pre
   size_pre = omega (arith, q.number)
 
-  take-place : take k t ≡ q.pre
-  take-place = (λ z. take (size_pre z) (q.parts z)) ∙ take_pre q.pre q.post
+  take_place : take k t ≡ q.pre
+  take_place = (λ z. take (size_pre z) (q.parts z)) ∙ take_pre q.pre q.post
 
   before_begins : Begins (take k t)
   before_begins =
       let s = q.state in
       let l = roomy s in
-      subst Begins (sym take-place) (l, begins l s k q.pre (omega arith) (completes l s.phase s.mark s.nodes s.holder s.brackets (omega arith)) (λ w. q.along l (to_roomy s) w))
+      subst Begins (sym take_place) (l, begins l s k q.pre (omega arith) (completes l s.phase s.mark s.nodes s.holder s.brackets (omega arith)) (λ w. q.along l (to_roomy s) w))
 
   -- at the byte b
   module _ (b : ℕ) (post : List ℕ) (is : q.post ≡ b ∷ post) (st : next_in limits q.state q.state.phase b ≡ stop r) where
     text : t ≡ (q.pre ++ b ∷ []) ++ post
     text = q.parts ∙ ap (λ x. q.pre ++ x) is ∙ sym (append_assoc q.pre (b ∷ []) post)
 
-    inside-text : k < length t
-    inside-text = omega (arith, ap length text, length-append (q.pre ++ b ∷ []) post, length_push q.pre b, size_pre)
+    inside_text : k < length t
+    inside_text = omega (arith, ap length text, length-append (q.pre ++ b ∷ []) post, length_push q.pre b, size_pre)
 
     take_more : take (k + 1) t ≡ q.pre ++ b ∷ []
     take_more =
@@ -345,49 +345,49 @@ misfit_at t k q [] is st =
           no_grant (sym (ap (run_in l start 0) whole ∙ q.along l (both_left limits p.0) [] ∙ st) ∙ grants_wider p.0 l t p.1 (both_right limits p.0) p.2)),
     )
 misfit_at t k q (b ∷ post) is st = (
-  omega (arith, inside-text t _ k q b post is st),
+  omega (arith, inside_text t _ k q b post is st),
   before_begins t _ k q,
   (λ _ g.
       let l = both limits g.0 in
       let w = both_left limits g.0 in
       no_grant (sym (on_from t _ k q b post is st l w (stop Misfit) ((told t _ k q b post is st l w).0 refl) g.1.0) ∙ grants_wider g.0 l _ g.1.1 (both_right limits g.0) g.1.2)),
-  (λ le. absurd (omega (arith, le, inside-text t _ k q b post is st))),
+  (λ le. absurd (omega (arith, le, inside_text t _ k q b post is st))),
 )
 
-many-at : (t : List ℕ) (k : ℕ) (q : Stopped start 0 t TooManySteps k) (post : List ℕ) → q.post ≡ post → Stops q.state k post TooManySteps
+many_at : (t : List ℕ) (k : ℕ) (q : Stopped start 0 t TooManySteps k) (post : List ℕ) → q.post ≡ post → Stops q.state k post TooManySteps
     → (k < length t) × ((names brackets : ℕ) × BeginsIn (record { names = names; brackets = brackets; bytes = 32 }) (take (k + 1) t)) × (BeginsIn limits (take (k + 1) t) → ⊥)
-many-at t k q [] is st = absurd (misfit_many (finish-place q.state q.state.phase k _ k st).0)
-many-at t k q (b ∷ post) is st =
+many_at t k q [] is st = absurd (misfit_many (finish_place q.state q.state.phase k _ k st).0)
+many_at t k q (b ∷ post) is st =
     let s = q.state in
     let l = roomy s in
     let on = (told t _ k q b post is st l (to_roomy s)).1 refl (record { names = omega arith; brackets = omega arith }) in
     let u = on.0 in
     let room : length u.nodes < l.names = omega (arith, on.2) in (
-      inside-text t _ k q b post is st,
+      inside_text t _ k q b post is st,
       (l.names, l.brackets, goes_on t _ k q b post is st l (to_roomy s) (omega arith) u on.1 (completes l u.phase u.mark u.nodes u.holder u.brackets room)),
       not_within t _ k q b post is st,
     )
 
-name-at : (t : List ℕ) (k : ℕ) (q : Stopped start 0 t PatternNameTooLong k) (post : List ℕ) → q.post ≡ post → Stops q.state k post PatternNameTooLong
+name_at_lem : (t : List ℕ) (k : ℕ) (q : Stopped start 0 t PatternNameTooLong k) (post : List ℕ) → q.post ≡ post → Stops q.state k post PatternNameTooLong
     → (k < length t) × BeginsIn limits (take k t) × ((bytes : ℕ) × BeginsIn (record { names = 16; brackets = 8; bytes = bytes }) (take (k + 1) t)) × (BeginsIn limits (take (k + 1) t) → ⊥)
-name-at t k q [] is st = absurd (misfit_name (finish-place q.state q.state.phase k _ k st).0)
-name-at t k q (b ∷ post) is st =
+name_at_lem t k q [] is st = absurd (misfit_name (finish_place q.state q.state.phase k _ k st).0)
+name_at_lem t k q (b ∷ post) is st =
     let s = q.state in
     let l = longer s in
-    let a = (told t _ k q b post is st l (to-longer s)).2 refl in
+    let a = (told t _ k q b post is st l (to_longer s)).2 refl in
     let on = a.1 (omega arith) in
     let u = on.0 in (
-      inside-text t _ k q b post is st,
-      subst (BeginsIn limits) (sym (take-place t _ k q)) (begins limits s k q.pre (omega arith) (in_name_completes limits s.phase s.mark s.nodes s.holder s.brackets a.0) (λ w. q.along limits (same_limits limits) w)),
-      (l.bytes, goes_on t _ k q b post is st l (to-longer s) (omega arith) u on.1 (in_name_completes l u.phase u.mark u.nodes u.holder u.brackets on.2)),
+      inside_text t _ k q b post is st,
+      subst (BeginsIn limits) (sym (take_place t _ k q)) (begins limits s k q.pre (omega arith) (in_name_completes limits s.phase s.mark s.nodes s.holder s.brackets a.0) (λ w. q.along limits (same_limits limits) w)),
+      (l.bytes, goes_on t _ k q b post is st l (to_longer s) (omega arith) u on.1 (in_name_completes l u.phase u.mark u.nodes u.holder u.brackets on.2)),
       not_within t _ k q b post is st,
     )
 
 pub misfit_place : MisfitIsWhereNoPatternGoesOn
 misfit_place t k e = let q = short_of t Misfit k (λ x. omega (arith, ap number_of x)) e in misfit_at t k q q.post refl q.there
 
-pub many-place : TooManyIsWhereMoreWouldFit
-many-place t k e = let q = short_of t TooManySteps k (λ x. omega (arith, ap number_of x)) e in many-at t k q q.post refl q.there
+pub many_place : TooManyIsWhereMoreWouldFit
+many_place t k e = let q = short_of t TooManySteps k (λ x. omega (arith, ap number_of x)) e in many_at t k q q.post refl q.there
 
-pub name-place : NameTooLongIsWhereLongerWouldFit
-name-place t k e = let q = short_of t PatternNameTooLong k (λ x. omega (arith, ap number_of x)) e in name-at t k q q.post refl q.there
+pub name_place : NameTooLongIsWhereLongerWouldFit
+name_place t k e = let q = short_of t PatternNameTooLong k (λ x. omega (arith, ap number_of x)) e in name_at_lem t k q q.post refl q.there

@@ -97,9 +97,9 @@ module _ (l : Limits) where
       subst (λ x. Goes (at m ns p hs (inside e n)) (c ∷ cs) (at m ns p hs (inside e x))) (append_assoc n (c ∷ []) cs)
       (join _ (at m ns p hs (inside e (n ++ c ∷ []))) _ (c ∷ []) cs (byte _ _ c (cond-true _ _ _ a.0 ∙ cond-false _ _ _ (lt-leb l.bytes _ size))) (more_name m ns p hs e (n ++ c ∷ []) cs a.1 size'))
 
-  whole-name : (m : Mark) (ns : List Vertex) (p : ℕ) (hs : List ℕ) (b : Bool) (e : Edge) (n : List ℕ) → NameWithin l.bytes n → length ns < l.names → Goes (at m ns p hs (after_open m ns b e)) n (at m ns p hs (inside e n))
-  whole-name m ns p hs b e [] ok few = absurd (omega (arith, ok.some))
-  whole-name m ns p hs b e (c ∷ cs) ok few =
+  whole_name : (m : Mark) (ns : List Vertex) (p : ℕ) (hs : List ℕ) (b : Bool) (e : Edge) (n : List ℕ) → NameWithin l.bytes n → length ns < l.names → Goes (at m ns p hs (after_open m ns b e)) n (at m ns p hs (inside e n))
+  whole_name m ns p hs b e [] ok few = absurd (omega (arith, ok.some))
+  whole_name m ns p hs b e (c ∷ cs) ok few =
       let size : length (c ∷ []) + length cs ≤ l.bytes = omega (arith, ok.short) in
       join _ (at m ns p hs (inside e (c ∷ []))) _ (c ∷ []) cs (first m ns p hs b e c ok.first few) (more_name m ns p hs e (c ∷ []) cs ok.each.1 size)
 
@@ -117,7 +117,7 @@ module _ (l : Limits) where
       → length ns ≡ n → n < l.names → NameWithin l.bytes a → HeadOk w
       → (j : ℕ) × (run_in l (at m ns h hs (after_open m ns b e)) i (a ++ w) ≡ run_in l (at m (ns ++ node a h e ∷ []) n hs step) j w)
   named b e a m ns n h hs i w s few ok hw =
-      let g = (whole-name m ns h hs b e a ok (omega arith)).on i w in
+      let g = (whole_name m ns h hs b e a ok (omega arith)).on i w in
       (g.0, g.1 ∙ settles (at m ns h hs step) e a w g.0 hw ∙ (λ z. run_in l (at m (ns ++ node a h e ∷ []) (s z) hs step) g.0 w))
 
   runs : (t : Tail) (m : Mark) (ns : List Vertex) (n h : ℕ) (hs : List ℕ) (i : ℕ) (more : List ℕ)
@@ -165,22 +165,22 @@ module _ (l : Limits) where
   leads Top = byte _ _ 47 (refl)
   leads Any = join _ (at Any [] 0 [] lead) _ (47 ∷ []) (47 ∷ []) (byte _ _ 47 (refl)) (byte _ _ 47 (refl))
 
-  root-first : (m : Mark) (c : ℕ) → name_first c ≡ true → 0 < l.names → Goes (after_lead m) (c ∷ []) (at m [] 0 [] (inside Child (c ∷ [])))
-  root-first Top c h one = byte _ _ c (cond-false _ _ _ (apart Top [] c 47 h refl) ∙ cond-true _ _ _ h ∙ cond-false _ _ _ (lt-leb l.names 0 one))
-  root-first Any c h one = byte _ _ c (cond-true _ _ _ h ∙ cond-false _ _ _ (lt-leb l.names 0 one))
+  root_first : (m : Mark) (c : ℕ) → name_first c ≡ true → 0 < l.names → Goes (after_lead m) (c ∷ []) (at m [] 0 [] (inside Child (c ∷ [])))
+  root_first Top c h one = byte _ _ c (cond-false _ _ _ (apart Top [] c 47 h refl) ∙ cond-true _ _ _ h ∙ cond-false _ _ _ (lt-leb l.names 0 one))
+  root_first Any c h one = byte _ _ c (cond-true _ _ _ h ∙ cond-false _ _ _ (lt-leb l.names 0 one))
 
-  root-name : (m : Mark) (n : List ℕ) → NameWithin l.bytes n → 0 < l.names → Goes (after_lead m) n (at m [] 0 [] (inside Child n))
-  root-name m [] ok one = absurd (omega (arith, ok.some))
-  root-name m (c ∷ cs) ok one =
+  root_name : (m : Mark) (n : List ℕ) → NameWithin l.bytes n → 0 < l.names → Goes (after_lead m) n (at m [] 0 [] (inside Child n))
+  root_name m [] ok one = absurd (omega (arith, ok.some))
+  root_name m (c ∷ cs) ok one =
       let size : length (c ∷ []) + length cs ≤ l.bytes = omega (arith, ok.short) in
-      join _ (at m [] 0 [] (inside Child (c ∷ []))) _ (c ∷ []) cs (root-first m c ok.first one) (more_name m [] 0 [] Child (c ∷ []) cs ok.each.1 size)
+      join _ (at m [] 0 [] (inside Child (c ∷ []))) _ (c ∷ []) cs (root_first m c ok.first one) (more_name m [] 0 [] Child (c ∷ []) cs ok.each.1 size)
 
   pub sound_in : (t : List ℕ) (m : Mark) (vs : List Vertex) → DerivesTail l t m vs → run_in l start 0 t ≡ granted m vs
   unfolding run_in
   sound_in t m vs d =
       let w = text_of d.tail in
       let g = (leads m).on 0 (d.name ++ w) in
-      let r = (root-name m d.name d.lawful d.one).on g.0 w in
+      let r = (root_name m d.name d.lawful d.one).on g.0 w in
       let v = node d.name 0 Child in
       let q = runs d.tail m (v ∷ []) 1 0 [] r.0 [] refl tt d.within in
       ap (run_in l start 0) d.text

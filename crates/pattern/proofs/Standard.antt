@@ -102,12 +102,12 @@ open_size false Descendant = lit≤ tt
 open_size true Child = lit≤ tt
 open_size true Descendant = lit≤ tt
 
-pub text-size : (limit d n : ℕ) (t : Tail) → Within (up_to limit) d n t → length (text_of t) ≤ 37 * size t
-text-size limit d n end w = lit≤ tt
-text-size limit d n (onward e a t) w =
-    omega (arith, length-append (open_text false e) (a ++ text_of t), length-append a (text_of t), open_size false e, w.1.short, text-size limit d (n + 1) t w.2)
-text-size limit d n (branch e a t u) w =
-    omega (arith, length-append (open_text true e) (a ++ (text_of t ++ 93 ∷ text_of u)), length-append a (text_of t ++ 93 ∷ text_of u), length-append (text_of t) (93 ∷ text_of u), open_size true e, w.2.short, text-size limit (d + 1) (n + 1) t w.3, text-size limit d (n + 1 + size t) u w.4)
+pub text_size : (limit d n : ℕ) (t : Tail) → Within (up_to limit) d n t → length (text_of t) ≤ 37 * size t
+text_size limit d n end w = lit≤ tt
+text_size limit d n (onward e a t) w =
+    omega (arith, length-append (open_text false e) (a ++ text_of t), length-append a (text_of t), open_size false e, w.1.short, text_size limit d (n + 1) t w.2)
+text_size limit d n (branch e a t u) w =
+    omega (arith, length-append (open_text true e) (a ++ (text_of t ++ 93 ∷ text_of u)), length-append a (text_of t ++ 93 ∷ text_of u), length-append (text_of t) (93 ∷ text_of u), open_size true e, w.2.short, text_size limit (d + 1) (n + 1) t w.3, text_size limit d (n + 1 + size t) u w.4)
 
 -- where a later node hangs on q
 none-append : (q : ℕ) (xs ys : List Vertex) → later q xs ≡ false → later q ys ≡ false → later q (xs ++ ys) ≡ false
@@ -123,11 +123,11 @@ first_child h n end vs s = absurd (omega (arith, s))
 first_child h n (onward e a t) vs s = or_left (eqb h h) _ (eq-eqb h h refl)
 first_child h n (branch e a t u) vs s = or_left (eqb h h) _ (eq-eqb h h refl)
 
-later-none : (t : Tail) (h n q : ℕ) → (h ≡ q → ⊥) → q < n → later q (nodes_of_tail h n t) ≡ false
-later-none end h n q ne l = refl
-later-none (onward e a t) h n q ne l = or_from (eqb h q) _ (ne_eqb h q ne) (later-none t n (n + 1) q (omega arith) (omega arith))
-later-none (branch e a t u) h n q ne l =
-    or_from (eqb h q) _ (ne_eqb h q ne) (none-append q (nodes_of_tail n (n + 1) t) _ (later-none t n (n + 1) q (omega arith) (omega arith)) (later-none u h (n + 1 + size t) q ne (omega arith)))
+later_none : (t : Tail) (h n q : ℕ) → (h ≡ q → ⊥) → q < n → later q (nodes_of_tail h n t) ≡ false
+later_none end h n q ne l = refl
+later_none (onward e a t) h n q ne l = or_from (eqb h q) _ (ne_eqb h q ne) (later_none t n (n + 1) q (omega arith) (omega arith))
+later_none (branch e a t u) h n q ne l =
+    or_from (eqb h q) _ (ne_eqb h q ne) (none-append q (nodes_of_tail n (n + 1) t) _ (later_none t n (n + 1) q (omega arith) (omega arith)) (later_none u h (n + 1 + size t) q ne (omega arith)))
 
 abbrev pub head_close : Tail → ℕ → ℕ → List ℕ
 head_close end h k = []
@@ -160,7 +160,7 @@ join_edge c o a t r =
 by_onward : (e : Edge) (a : List ℕ) (t : Tail) (h k : ℕ) (vs : List Vertex) → h ≤ k → later h vs ≡ false → Spelt t (k + 1) (k + 1) vs → Spelt (onward e a t) h k vs
 by_onward e a t h k vs l f ih =
     let nt = nodes_of_tail (k + 1) (k + 1 + 1) t in
-    let none : later h (nt ++ vs) ≡ false = none-append h nt vs (later-none t (k + 1) (k + 1 + 1) h (omega arith) (omega arith)) f in
+    let none : later h (nt ++ vs) ≡ false = none-append h nt vs (later_none t (k + 1) (k + 1 + 1) h (omega arith) (omega arith)) f in
     let num : k + 1 + size t ≡ k + (size t + 1) = omega arith in
     (λ z. (close_text h k ++ open_text (none z) e ++ a) ++ (ih ∙ ap (λ x. x ++ (text_of (std t) ++ rest (k + 1 + size t) vs)) (no_close t (k + 1))) z)
     ∙ join_edge (close_text h k) (open_text false e) a (text_of (std t)) _
@@ -201,7 +201,7 @@ spelt (onward e a t) h k vs l f =
 spelt (branch e a t u) h k vs l f =
     let nu = nodes_of_tail h (k + 1 + size t + 1) u in
     let apart : (q : ℕ) → k < q → q ≤ k + 1 + size t → later q (nu ++ vs) ≡ false =
-    λ q p r. none-append q nu vs (later-none u h (k + 1 + size t + 1) q (omega arith) (omega arith)) (f.there q p (omega arith)) in
+    λ q p r. none-append q nu vs (later_none u h (k + 1 + size t + 1) q (omega arith) (omega arith)) (f.there q p (omega arith)) in
     let alone : Spelt t (k + 1) (k + 1) vs =
     spelt t (k + 1) (k + 1) vs (omega arith) (record { here = f.there (k + 1) (omega arith) (omega arith); there = λ q p r. f.there q (omega arith) (omega arith) }) in
     let before : Spelt t (k + 1) (k + 1) (nu ++ vs) =

@@ -8,7 +8,7 @@ use Rattle.markup.specs.declared.fault.Fault.{Fault}
 use Rattle.markup.specs.declared.fault.Refusal.TheVariants.{Misfit, TooManySteps, PatternNameTooLong}
 use Rattle.markup.specs.Faults.{fault}
 use Rattle.markup.specs.Name.{name_first, name_byte}
-use Rattle.pattern.specs.Reading.{State, edge, bracket, step, inside, slash, dot, dot-slash, Move, go, stop, refused, limits, to, settle, next_in, beyond_in, finish, feed, run_in, reads}
+use Rattle.pattern.specs.Reading.{State, edge, bracket, step, inside, slash, dot, dot_slash, Move, go, stop, refused, limits, to, settle, next_in, beyond_in, finish, feed, run_in, reads}
 
 -- the byte b stands at place i
 abbrev pub Sees : List ℕ → ℕ → ℕ → Type 0
@@ -70,21 +70,21 @@ module _ (t : List ℕ) (i : ℕ) where
   inner_dot : Sees t i 46 → (s : State) → reads t (to s bracket) i ≡ reads t (to s dot) (i + 1)
   inner_dot h s = seen t (to s bracket) i 46 h
 
-  inner_dot_slash : Sees t i 46 → Sees t (i + 1) 47 → (s : State) → reads t (to s bracket) i ≡ reads t (to s dot-slash) (i + 1 + 1)
+  inner_dot_slash : Sees t i 46 → Sees t (i + 1) 47 → (s : State) → reads t (to s bracket) i ≡ reads t (to s dot_slash) (i + 1 + 1)
   inner_dot_slash h h' s = inner_dot h s ∙ seen t (to s dot) (i + 1) 47 h'
 
   pub inner_two : Sees t i 46 → Sees t (i + 1) 47 → Sees t (i + 1 + 1) 47 → (s : State) → reads t (to s bracket) i ≡ reads t (to s (edge Descendant)) (i + 1 + 1 + 1)
-  inner_two h h' h'' s = inner_dot_slash h h' s ∙ seen t (to s dot-slash) (i + 1 + 1) 47 h''
+  inner_two h h' h'' s = inner_dot_slash h h' s ∙ seen t (to s dot_slash) (i + 1 + 1) 47 h''
 
   pub inner_first : Sees t i 46 → (Sees t (i + 1) 47 → ⊥) → (s : State) → reads t (to s bracket) i ≡ refused Misfit (i + 1)
   inner_first h n s = inner_dot h s ∙ stray t (to s dot) (i + 1) 47 _ n (λ b. refl) refl
 
   pub inner_second : Sees t i 46 → Sees t (i + 1) 47 → (Sees t (i + 1 + 1) 47 → ⊥) → (s : State) → reads t (to s bracket) i ≡ refused Misfit (i + 1 + 1)
-  inner_second h h' n s = inner_dot_slash h h' s ∙ stray t (to s dot-slash) (i + 1 + 1) 47 _ n (λ b. refl) refl
+  inner_second h h' n s = inner_dot_slash h h' s ∙ stray t (to s dot_slash) (i + 1 + 1) 47 _ n (λ b. refl) refl
 
   -- the name's end
-  pub name-end : (i < length t → name_byte (get_or t i 0) ≡ false) → (s : State) (e : Edge) (n : List ℕ) → reads t (to s (inside e n)) i ≡ reads t (settle s e n) i
-  name-end f s e n =
+  pub name_end : (i < length t → name_byte (get_or t i 0) ≡ false) → (s : State) (e : Edge) (n : List ℕ) → reads t (to s (inside e n)) i ≡ reads t (settle s e n) i
+  name_end f s e n =
       ⊎_elim
       (λ h. one t (to s (inside e n)) i h
       ∙ ap (λ x. feed i (cond x (cond (leb 32 (length n)) (stop PatternNameTooLong) (go (to s (inside e (n ++ get_or t i 0 ∷ []))))) (beyond_in limits (settle s e n) (get_or t i 0))) (λ v. reads t v (i + 1))) (f h)
@@ -100,11 +100,11 @@ two_passed t t' t'' i j k h a e b e' =
     let k-is : k ≡ i + 1 + 1 + 1 = omega (arith, a.1, b.1) in
     (omega arith, λ s. inner_two t i h a.0 h'' s ∙ (λ z. reads (sym (e' ∙ e) z) (to s (edge Descendant)) (sym k-is z)))
 
-pub first-not : (t : List ℕ) (i : ℕ) (f : Fault) → Sees t i 46 → (Sees t (i + 1) 47 → ⊥) × (f ≡ fault Misfit (i + 1)) → (s : State) → reads t (to s bracket) i ≡ Err f
-first-not t i f h a s = inner_first t i h a.0 s ∙ ap Err (sym a.1)
+pub first_not : (t : List ℕ) (i : ℕ) (f : Fault) → Sees t i 46 → (Sees t (i + 1) 47 → ⊥) × (f ≡ fault Misfit (i + 1)) → (s : State) → reads t (to s bracket) i ≡ Err f
+first_not t i f h a s = inner_first t i h a.0 s ∙ ap Err (sym a.1)
 
-pub second-not : (t t' : List ℕ) (i j : ℕ) (f : Fault) → Sees t i 46 → Sees t (i + 1) 47 × (j ≡ i + 1 + 1) → t' ≡ t → (Sees t' j 47 → ⊥) × (f ≡ fault Misfit j) → (s : State) → reads t (to s bracket) i ≡ Err f
-second-not t t' i j f h a e b s =
+pub second_not : (t t' : List ℕ) (i j : ℕ) (f : Fault) → Sees t i 46 → Sees t (i + 1) 47 × (j ≡ i + 1 + 1) → t' ≡ t → (Sees t' j 47 → ⊥) × (f ≡ fault Misfit j) → (s : State) → reads t (to s bracket) i ≡ Err f
+second_not t t' i j f h a e b s =
     inner_second t i h a.0 (λ h''. b.0 (subst (λ x. Sees x j 47) (sym e) (subst (λ x. Sees t x 47) (sym a.1) h''))) s
     ∙ ap (refused Misfit) (sym a.1)
     ∙ ap Err (sym b.1)
@@ -117,21 +117,21 @@ pub by : (t : List ℕ) (s : State) (i : ℕ) {m : Move} → i < length t → ne
 by t s i h e = one t s i h ∙ ap (λ x. feed i x (λ u. reads t u (i + 1))) e
 
 module _ (t : List ℕ) (i : ℕ) (s : State) (e : Edge) where
-  pub name-none : (i < length t → name_first (get_or t i 0) ≡ false) → reads t (to s (edge e)) i ≡ refused Misfit i
-  name-none f =
+  pub name_none : (i < length t → name_first (get_or t i 0) ≡ false) → reads t (to s (edge e)) i ≡ refused Misfit i
+  name_none f =
       ⊎_elim (λ h. by t (to s (edge e)) i h (cond-false _ _ _ (f h))) (λ h. over t (to s (edge e)) i h) (cases_lt i (length t))
 
-  pub name-full : i < length t → name_first (get_or t i 0) ≡ true → 16 ≤ length s.nodes → reads t (to s (edge e)) i ≡ refused TooManySteps i
-  name-full h a f = by t (to s (edge e)) i h (cond-true _ _ _ a ∙ cond-true _ _ _ (le-leb 16 _ f))
+  pub name_full : i < length t → name_first (get_or t i 0) ≡ true → 16 ≤ length s.nodes → reads t (to s (edge e)) i ≡ refused TooManySteps i
+  name_full h a f = by t (to s (edge e)) i h (cond-true _ _ _ a ∙ cond-true _ _ _ (le-leb 16 _ f))
 
-  pub name-first : i < length t → name_first (get_or t i 0) ≡ true → length s.nodes < 16 → reads t (to s (edge e)) i ≡ reads t (to s (inside e (get_or t i 0 ∷ []))) (i + 1)
-  name-first h a f = by t (to s (edge e)) i h (cond-true _ _ _ a ∙ cond-false _ _ _ (lt-leb 16 _ f))
+  pub name_first_lem : i < length t → name_first (get_or t i 0) ≡ true → length s.nodes < 16 → reads t (to s (edge e)) i ≡ reads t (to s (inside e (get_or t i 0 ∷ []))) (i + 1)
+  name_first_lem h a f = by t (to s (edge e)) i h (cond-true _ _ _ a ∙ cond-false _ _ _ (lt-leb 16 _ f))
 
   pub name_more : (n : List ℕ) → i < length t → name_byte (get_or t i 0) ≡ true → length n < 32 → reads t (to s (inside e n)) i ≡ reads t (to s (inside e (n ++ get_or t i 0 ∷ []))) (i + 1)
   name_more n h a f = by t (to s (inside e n)) i h (cond-true _ _ _ a ∙ cond-false _ _ _ (lt-leb 32 _ f))
 
-  pub name-long : (n : List ℕ) → i < length t → name_byte (get_or t i 0) ≡ true → 32 ≤ length n → reads t (to s (inside e n)) i ≡ refused PatternNameTooLong i
-  name-long n h a f = by t (to s (inside e n)) i h (cond-true _ _ _ a ∙ cond-true _ _ _ (le-leb 32 _ f))
+  pub name_long : (n : List ℕ) → i < length t → name_byte (get_or t i 0) ≡ true → 32 ≤ length n → reads t (to s (inside e n)) i ≡ refused PatternNameTooLong i
+  name_long n h a f = by t (to s (inside e n)) i h (cond-true _ _ _ a ∙ cond-true _ _ _ (le-leb 32 _ f))
 
 module _ (t t' : List ℕ) (i : ℕ) (bytes : List ℕ) (n j : ℕ) (bytes' : List ℕ) (m : ℕ) (same_text : t' ≡ t) (long : length bytes' ≡ 32) (sofar : NameSofar t i bytes n j bytes' m) where
   pub sofar_more : m < 32 → j < length t' → true ≡ name_byte (get_or t' j 0) → NameSofar t i bytes n (j + 1) (set bytes' m (get_or t' j 0)) (m + 1)
@@ -148,10 +148,10 @@ module _ (t t' : List ℕ) (i : ℕ) (bytes : List ℕ) (n j : ℕ) (bytes' : Li
   sofar_long much few h a s e =
       let size : 32 ≤ length (take m bytes') = omega (arith, length-take-le m bytes' (omega arith)) in
       sofar.same s e
-      ∙ name-long t j s e (take m bytes') (subst (λ x. j < length x) same_text h) (sym (subst (λ x. true ≡ name_byte (get_or x j 0)) same_text a)) size
+      ∙ name_long t j s e (take m bytes') (subst (λ x. j < length x) same_text h) (sym (subst (λ x. true ≡ name_byte (get_or x j 0)) same_text a)) size
 
   pub sofar_end : (j < length t' → name_byte (get_or t' j 0) ≡ false) → (s : State) (e : Edge) → reads t (to s (inside e (take n bytes))) i ≡ reads t' (settle s e (take m bytes')) j
   sofar_end f s e =
       sofar.same s e
-      ∙ name-end t j (subst (λ x. j < length x → name_byte (get_or x j 0) ≡ false) same_text f) s e (take m bytes')
+      ∙ name_end t j (subst (λ x. j < length x → name_byte (get_or x j 0) ≡ false) same_text f) s e (take m bytes')
       ∙ ap (λ x. reads x (settle s e (take m bytes')) j) (sym same_text)

@@ -11,12 +11,12 @@ use Rattle.pattern.specs.Spelling.{lead_text, open_text}
 use Rattle.pattern.proofs.Tails.{Tail, end, onward, branch, text_of, nodes_of_tail, size, Within, Standard, DerivesTail}
 use Rattle.pattern.specs.Grammar.{Step, step, Branches, none, and, Branch, last, then, step_text, branches_text, branch_text, step_names, branches_names, branch_names, step_nodes, branches_nodes, branch_nodes, StepWithin, BranchesWithin, BranchWithin, Bare, StepStandard, BranchesStandard, BranchStandard, Derives}
 
-abbrev step-name : Step → List ℕ
-step-name (step a bs) = a
+abbrev step_name : Step → List ℕ
+step_name (step a bs) = a
 
 abbrev first : Branch → List ℕ
-first (last s) = step-name s
-first (then s e c) = step-name s
+first (last s) = step_name s
+first (then s e c) = step_name s
 
 abbrev mutual
   step_tail : Step → Tail → Tail
@@ -35,7 +35,7 @@ join : (o x y z : List ℕ) → o ++ (x ++ 93 ∷ (y ++ z)) ≡ (o ++ (x ++ 93 �
 join o x y z = ap (λ w. o ++ w) (sym (append_assoc x (93 ∷ y) z)) ∙ sym (append_assoc o (x ++ 93 ∷ y) z)
 
 mutual
-  step_same : (s : Step) (t : Tail) → step-name s ++ text_of (step_tail s t) ≡ step_text s ++ text_of t
+  step_same : (s : Step) (t : Tail) → step_name s ++ text_of (step_tail s t) ≡ step_text s ++ text_of t
   step_same (step a bs) t = ap (λ x. a ++ x) (branches_same bs t) ∙ sym (append_assoc a (branches_text bs) (text_of t))
 
   branches_same : (bs : Branches) (t : Tail) → text_of (branches_tail bs t) ≡ branches_text bs ++ text_of t
@@ -50,21 +50,21 @@ mutual
 
 -- numbers of names
 mutual
-  step-size : (s : Step) (t : Tail) → size (step_tail s t) + 1 ≡ step_names s + size t
-  step-size (step a bs) t = omega (arith, branches_size bs t)
+  step_size : (s : Step) (t : Tail) → size (step_tail s t) + 1 ≡ step_names s + size t
+  step_size (step a bs) t = omega (arith, branches_size bs t)
 
   branches_size : (bs : Branches) (t : Tail) → size (branches_tail bs t) ≡ branches_names bs + size t
   branches_size none t = omega arith
   branches_size (and e c bs) t = omega (arith, branch_size c, branches_size bs t)
 
   branch_size : (c : Branch) → size (branch_tail c) + 1 ≡ branch_names c
-  branch_size (last s) = omega (arith, step-size s end)
-  branch_size (then s e c) = omega (arith, step-size s (onward e (first c) (branch_tail c)), branch_size c)
+  branch_size (last s) = omega (arith, step_size s end)
+  branch_size (then s e c) = omega (arith, step_size s (onward e (first c) (branch_tail c)), branch_size c)
 
 -- nodes
 mutual
-  step-hangs : (s : Step) (h n : ℕ) (e : Edge) (t : Tail) → node (step-name s) h e ∷ nodes_of_tail n (n + 1) (step_tail s t) ≡ step_nodes s h n e ++ nodes_of_tail n (n + step_names s) t
-  step-hangs (step a bs) h n e t =
+  step_hangs : (s : Step) (h n : ℕ) (e : Edge) (t : Tail) → node (step_name s) h e ∷ nodes_of_tail n (n + 1) (step_tail s t) ≡ step_nodes s h n e ++ nodes_of_tail n (n + step_names s) t
+  step_hangs (step a bs) h n e t =
       let num : n + 1 + branches_names bs ≡ n + (branches_names bs + 1) = omega arith in
       ap (λ x. node a h e ∷ x) (branches_hang bs n (n + 1) t ∙ ap (λ x. branches_nodes bs n (n + 1) ++ nodes_of_tail n x t) num)
 
@@ -78,14 +78,14 @@ mutual
       ∙ sym (append_assoc (branch_nodes c h n e) (branches_nodes bs h (n + branch_names c)) _)
 
   branch_hangs : (c : Branch) (h n : ℕ) (e : Edge) → node (first c) h e ∷ nodes_of_tail n (n + 1) (branch_tail c) ≡ branch_nodes c h n e
-  branch_hangs (last s) h n e = step-hangs s h n e end ∙ append-nil (step_nodes s h n e)
-  branch_hangs (then s f c) h n e = step-hangs s h n e (onward f (first c) (branch_tail c)) ∙ ap (λ x. step_nodes s h n e ++ x) (branch_hangs c n (n + step_names s) f)
+  branch_hangs (last s) h n e = step_hangs s h n e end ∙ append-nil (step_nodes s h n e)
+  branch_hangs (then s f c) h n e = step_hangs s h n e (onward f (first c) (branch_tail c)) ∙ ap (λ x. step_nodes s h n e ++ x) (branch_hangs c n (n + step_names s) f)
 
 -- limits
 module _ (l : Limits) where
   mutual
-    step-within : (s : Step) (d n : ℕ) (t : Tail) → StepWithin s l d n → Within l d (n + step_names s) t → (n < l.names) × NameWithin l.bytes (step-name s) × Within l d (n + 1) (step_tail s t)
-    step-within (step a bs) d n t w r =
+    step_within : (s : Step) (d n : ℕ) (t : Tail) → StepWithin s l d n → Within l d (n + step_names s) t → (n < l.names) × NameWithin l.bytes (step_name s) × Within l d (n + 1) (step_tail s t)
+    step_within (step a bs) d n t w r =
         let num : n + (branches_names bs + 1) ≡ n + 1 + branches_names bs = omega arith in
         (w.0, w.1, branches_within bs d (n + 1) t w.2 (subst (λ x. Within l d x t) num r))
 
@@ -98,8 +98,8 @@ module _ (l : Limits) where
         (w.0, c'.0, c'.1, c'.2, subst (λ x. Within l d x (branches_tail bs t)) num (branches_within bs d (n + branch_names c) t w.2 (subst (λ x. Within l d x t) num' r)))
 
     branch_within : (c : Branch) (d n : ℕ) → BranchWithin c l d n → (n < l.names) × NameWithin l.bytes (first c) × Within l d (n + 1) (branch_tail c)
-    branch_within (last s) d n w = step-within s d n end w tt
-    branch_within (then s e c) d n w = step-within s d n (onward e (first c) (branch_tail c)) w.0 (branch_within c d (n + step_names s) w.1)
+    branch_within (last s) d n w = step_within s d n end w tt
+    branch_within (then s e c) d n w = step_within s d n (onward e (first c) (branch_tail c)) w.0 (branch_within c d (n + step_names s) w.1)
 
 -- the branch of a name and a tail
 abbrev hold : Edge → Branch → Step → Step
@@ -114,12 +114,12 @@ grown a end = last (step a none)
 grown a (onward e b t) = then (step a none) e (grown b t)
 grown a (branch e b t u) = add e (grown b t) (grown a u)
 
-hold_name : (e : Edge) (c : Branch) (s : Step) → step-name (hold e c s) ≡ step-name s
+hold_name : (e : Edge) (c : Branch) (s : Step) → step_name (hold e c s) ≡ step_name s
 hold_name e c (step a bs) = refl
 
-add-first : (e : Edge) (c x : Branch) → first (add e c x) ≡ first x
-add-first e c (last s) = hold_name e c s
-add-first e c (then s f b) = hold_name e c s
+add_first : (e : Edge) (c x : Branch) → first (add e c x) ≡ first x
+add_first e c (last s) = hold_name e c s
+add_first e c (then s f b) = hold_name e c s
 
 hold_tail : (e : Edge) (c : Branch) (s : Step) (t : Tail) → step_tail (hold e c s) t ≡ branch e (first c) (branch_tail c) (step_tail s t)
 hold_tail e c (step a bs) t = refl
@@ -131,7 +131,7 @@ add_tail e c (then s f b) = hold_tail e c s (onward f (first b) (branch_tail b))
 grown_first : (a : List ℕ) (t : Tail) → first (grown a t) ≡ a
 grown_first a end = refl
 grown_first a (onward e b t) = refl
-grown_first a (branch e b t u) = add-first e (grown b t) (grown a u) ∙ grown_first a u
+grown_first a (branch e b t u) = add_first e (grown b t) (grown a u) ∙ grown_first a u
 
 grown_tail : (a : List ℕ) (t : Tail) → branch_tail (grown a t) ≡ t
 grown_tail a end = refl
@@ -149,9 +149,9 @@ rest_all (then (step a bs) e c) l d n few ok r =
     let num : n + 1 + branches_names bs ≡ n + (branches_names bs + 1) = omega arith in
     ((few, ok, r.0), subst (λ y. BranchWithin c l d y) num r.1)
 
-rest-add : (e : Edge) (c x : Branch) (l : Limits) (d k : ℕ) → d < l.brackets → BranchWithin c l (d + 1) k → Rest x l d (k + branch_names c) → Rest (add e c x) l d k
-rest-add e c (last (step a bs)) l d k deep w r = (deep, w, r)
-rest-add e c (then (step a bs) f b) l d k deep w r =
+rest_add : (e : Edge) (c x : Branch) (l : Limits) (d k : ℕ) → d < l.brackets → BranchWithin c l (d + 1) k → Rest x l d (k + branch_names c) → Rest (add e c x) l d k
+rest_add e c (last (step a bs)) l d k deep w r = (deep, w, r)
+rest_add e c (then (step a bs) f b) l d k deep w r =
     let num : k + branch_names c + branches_names bs ≡ k + (branch_names c + branches_names bs) = omega arith in
     ((deep, w, r.0), subst (λ y. BranchWithin b l d y) num r.1)
 
@@ -164,7 +164,7 @@ grown_within a (branch e b t u) l d k w =
     let c = grown b t in
     let ok : NameWithin l.bytes (first c) = subst (NameWithin l.bytes) (sym (grown_first b t)) w.2 in
     let num : k + 1 + size t ≡ k + branch_names c = omega (arith, branch_size c, ap size (grown_tail b t)) in
-    rest-add e c (grown a u) l d k w.0 (rest_all c l (d + 1) k w.1 ok (grown_within b t l (d + 1) (k + 1) w.3))
+    rest_add e c (grown a u) l d k w.0 (rest_all c l (d + 1) k w.1 ok (grown_within b t l (d + 1) (k + 1) w.3))
     (subst (λ y. Rest (grown a u) l d y) num (grown_within a u l d (k + 1 + size t) w.4))
 
 pub to_derives : (l : Limits) (t : List ℕ) (m : Mark) (vs : List Vertex) → DerivesTail l t m vs → Derives l t (shape m vs)
@@ -198,8 +198,8 @@ bare_tail (step a none) b = refl
 bare_tail (step a (and e c bs)) b = absurd b
 
 mutual
-  step-standard : (s : Step) (t : Tail) → StepStandard s → 0 < size t → Standard t → Standard (step_tail s t)
-  step-standard (step a bs) t w p r = branches_standard bs t w p r
+  step_standard : (s : Step) (t : Tail) → StepStandard s → 0 < size t → Standard t → Standard (step_tail s t)
+  step_standard (step a bs) t w p r = branches_standard bs t w p r
 
   branches_standard : (bs : Branches) (t : Tail) → BranchesStandard bs → 0 < size t → Standard t → Standard (branches_tail bs t)
   branches_standard none t w p r = r
@@ -207,22 +207,22 @@ mutual
 
   branch_standard : (c : Branch) → BranchStandard c → Standard (branch_tail c)
   branch_standard (last s) w = subst Standard (sym (bare_tail s w)) tt
-  branch_standard (then s e c) w = step-standard s (onward e (first c) (branch_tail c)) w.0 (omega arith) (branch_standard c w.1)
+  branch_standard (then s e c) w = step_standard s (onward e (first c) (branch_tail c)) w.0 (omega arith) (branch_standard c w.1)
 
-pub from-standard : (l : Limits) (t : List ℕ) (m : Mark) (vs : List Vertex) (s : Derives l t (shape m vs)) → BranchStandard s.all → Standard (from_derives l t m vs s).tail
+pub from_standard : (l : Limits) (t : List ℕ) (m : Mark) (vs : List Vertex) (s : Derives l t (shape m vs)) → BranchStandard s.all → Standard (from_derives l t m vs s).tail
 unfolding from_derives
-from-standard l t m vs s w = branch_standard s.all w
+from_standard l t m vs s w = branch_standard s.all w
 
-add-standard : (e : Edge) (c x : Branch) → BranchStandard c → BranchStandard x → 0 < size (branch_tail x) → BranchStandard (add e c x)
-add-standard e c (last (step a none)) w r p = absurd (omega (arith, p))
-add-standard e c (last (step a (and f b bs))) w r p = absurd r
-add-standard e c (then (step a bs) f b) w r p = ((w, r.0), r.1)
+add_standard : (e : Edge) (c x : Branch) → BranchStandard c → BranchStandard x → 0 < size (branch_tail x) → BranchStandard (add e c x)
+add_standard e c (last (step a none)) w r p = absurd (omega (arith, p))
+add_standard e c (last (step a (and f b bs))) w r p = absurd r
+add_standard e c (then (step a bs) f b) w r p = ((w, r.0), r.1)
 
 grown_standard : (a : List ℕ) (t : Tail) → Standard t → BranchStandard (grown a t)
 grown_standard a end w = tt
 grown_standard a (onward e b t) w = (tt, grown_standard b t w)
-grown_standard a (branch e b t u) w = add-standard e (grown b t) (grown a u) (grown_standard b t w.1) (grown_standard a u w.2) (omega (arith, w.0, ap size (grown_tail a u)))
+grown_standard a (branch e b t u) w = add_standard e (grown b t) (grown a u) (grown_standard b t w.1) (grown_standard a u w.2) (omega (arith, w.0, ap size (grown_tail a u)))
 
-pub to-standard : (l : Limits) (t : List ℕ) (m : Mark) (vs : List Vertex) (d : DerivesTail l t m vs) → Standard d.tail → BranchStandard (to_derives l t m vs d).all
+pub to_standard : (l : Limits) (t : List ℕ) (m : Mark) (vs : List Vertex) (d : DerivesTail l t m vs) → Standard d.tail → BranchStandard (to_derives l t m vs d).all
 unfolding to_derives
-to-standard l t m vs d w = grown_standard d.name d.tail w
+to_standard l t m vs d w = grown_standard d.name d.tail w

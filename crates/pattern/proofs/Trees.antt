@@ -15,10 +15,10 @@ use Rattle.pattern.specs.Grammar.{Derives}
 use Rattle.pattern.proofs.Tails.{Tail, end, onward, branch, text_of, nodes_of_tail, size, Within, Standard, DerivesTail}
 use Rattle.pattern.proofs.Preorder.{among, onto, Preorder, from_preorder, to_preorder}
 use Rattle.pattern.specs.Promises.{GrantedIsWhatTheGrammarDerives, GrantedIsLawful, SpellingsReadBack, OneStandardSpelling, SameSpellingSameTwig}
-use Rattle.pattern.proofs.Syntax.{to_derives, from_derives, to-standard, from-standard}
+use Rattle.pattern.proofs.Syntax.{to_derives, from_derives, to_standard, from_standard}
 use Rattle.pattern.proofs.Sound.{length-nodes, sound}
 use Rattle.pattern.proofs.Exact.{exact, exact_reads, same_twig, no_grant}
-use Rattle.pattern.proofs.Standard.{std, Names, nodes_std, standard_std, std_same, within_std, text-size, spelt_root}
+use Rattle.pattern.proofs.Standard.{std, Names, nodes_std, standard_std, std_same, within_std, text_size, spelt_root}
 
 -- The path to a node: those before h are above it in number.
 abbrev Over : ℕ → List ℕ → Type 0
@@ -71,10 +71,10 @@ all_right P (x ∷ xs) ys h = all_right P xs ys h.1
 abbrev Named : List Vertex → Type 0
 Named = Every (λ (v : Vertex). LawfulName v.name)
 
-named-nodes : (limit d k h n : ℕ) (t : Tail) → Within (up_to limit) d k t → Named (nodes_of_tail h n t)
-named-nodes limit d k h n end w = tt
-named-nodes limit d k h n (onward e a t) w = (w.1, named-nodes limit d (k + 1) n (n + 1) t w.2)
-named-nodes limit d k h n (branch e a t u) w = (w.2, All-append _ (nodes_of_tail n (n + 1) t) _ (named-nodes limit (d + 1) (k + 1) n (n + 1) t w.3) (named-nodes limit d (k + 1 + size t) h (n + 1 + size t) u w.4))
+named_nodes : (limit d k h n : ℕ) (t : Tail) → Within (up_to limit) d k t → Named (nodes_of_tail h n t)
+named_nodes limit d k h n end w = tt
+named_nodes limit d k h n (onward e a t) w = (w.1, named_nodes limit d (k + 1) n (n + 1) t w.2)
+named_nodes limit d k h n (branch e a t u) w = (w.2, All-append _ (nodes_of_tail n (n + 1) t) _ (named_nodes limit (d + 1) (k + 1) n (n + 1) t w.3) (named_nodes limit d (k + 1 + size t) h (n + 1 + size t) u w.4))
 
 names_tail : (h n : ℕ) (t : Tail) → Named (nodes_of_tail h n t) → Names t
 names_tail h n end p = tt
@@ -82,20 +82,20 @@ names_tail h n (onward e a t) p = (p.0, names_tail n (n + 1) t p.1)
 names_tail h n (branch e a t u) p =
     (p.0, names_tail n (n + 1) t (all_left _ (nodes_of_tail n (n + 1) t) _ p.1), names_tail h (n + 1 + size t) u (all_right _ (nodes_of_tail n (n + 1) t) _ p.1))
 
-few-names : (limit d n : ℕ) (t : Tail) → Within (up_to limit) d n t → n ≤ 16 → n + size t ≤ 16
-few-names limit d n end w l = omega arith
-few-names limit d n (onward e a t) w l = let f : n + 1 ≤ 16 = omega (arith, w.0) in omega (arith, few-names limit d (n + 1) t w.2 f)
-few-names limit d n (branch e a t u) w l =
+few_names : (limit d n : ℕ) (t : Tail) → Within (up_to limit) d n t → n ≤ 16 → n + size t ≤ 16
+few_names limit d n end w l = omega arith
+few_names limit d n (onward e a t) w l = let f : n + 1 ≤ 16 = omega (arith, w.0) in omega (arith, few_names limit d (n + 1) t w.2 f)
+few_names limit d n (branch e a t u) w l =
     let f : n + 1 ≤ 16 = omega (arith, w.1) in
-    omega (arith, few-names limit d (n + 1 + size t) u w.4 (few-names limit (d + 1) (n + 1) t w.3 f))
+    omega (arith, few_names limit d (n + 1 + size t) u w.4 (few_names limit (d + 1) (n + 1) t w.3 f))
 
 -- every derived twig is lawful
 pub lawful : (limit : ℕ) (t : List ℕ) (m : Mark) (vs : List Vertex) → DerivesTail (up_to limit) t m vs → LawfulTwig vs
 lawful limit t m vs d =
     let ns = nodes_of_tail 0 1 d.tail in
-    let few : length ns < 16 = omega (arith, length-nodes 0 1 d.tail, few-names limit 0 1 d.tail d.within (omega arith)) in
+    let few : length ns < 16 = omega (arith, length-nodes 0 1 d.tail, few_names limit 0 1 d.tail d.within (omega arith)) in
     let order : Preorder (0 ∷ []) 1 ns = subst (Preorder (0 ∷ []) 1) (append-nil ns) (preorder d.tail 0 1 [] [] [] (omega arith) tt (λ qs o. tt)) in
-    subst LawfulTwig (sym d.nodes) (from_preorder _ ns refl refl few (d.lawful, named-nodes limit 0 1 0 1 d.tail d.within) order)
+    subst LawfulTwig (sym d.nodes) (from_preorder _ ns refl refl few (d.lawful, named_nodes limit 0 1 0 1 d.tail d.within) order)
 
 -- the tree of nodes in preorder: what hangs on h, and then what hangs on each node of its path
 abbrev Kids : List ℕ → ℕ → ℕ → List Vertex → Type 0
@@ -159,20 +159,20 @@ written m (v ∷ vs) w =
         lawful = w.named.0;
         within = within_std t 0 1 (omega arith) (omega arith) names;
         text = append_assoc (lead_text m) v.name (rest 0 vs) ∙ ap (λ x. lead_text m ++ (v.name ++ x)) (ap (rest 0) g.1 ∙ spelt_root t);
-        nodes = (λ z. record { name = v.name; parent = w.root z; edge = w.root-edge z } ∷ (g.1 ∙ sym (nodes_std 0 1 t)) z);
+        nodes = (λ z. record { name = v.name; parent = w.root z; edge = w.root_edge z } ∷ (g.1 ∙ sym (nodes_std 0 1 t)) z);
       };
       standard = standard_std t;
     }
 
-lead-size : (m : Mark) → length (lead_text m) ≤ 2
-lead-size Top = lit≤ tt
-lead-size Any = lit≤ tt
+lead_size : (m : Mark) → length (lead_text m) ≤ 2
+lead_size Top = lit≤ tt
+lead_size Any = lit≤ tt
 
 -- how long a derived text is
-derived-size : (limit : ℕ) (t : List ℕ) (m : Mark) (vs : List Vertex) → DerivesTail (up_to limit) t m vs → length t ≤ 34 + 37 * 15
-derived-size limit t m vs d =
+derived_size : (limit : ℕ) (t : List ℕ) (m : Mark) (vs : List Vertex) → DerivesTail (up_to limit) t m vs → length t ≤ 34 + 37 * 15
+derived_size limit t m vs d =
     let w = text_of d.tail in
-    omega (arith, ap length d.text, length-append (lead_text m) (d.name ++ w), length-append d.name w, lead-size m, d.lawful.short, text-size limit 0 1 d.tail d.within, few-names limit 0 1 d.tail d.within (omega arith))
+    omega (arith, ap length d.text, length-append (lead_text m) (d.name ++ w), length-append d.name w, lead_size m, d.lawful.short, text_size limit 0 1 d.tail d.within, few_names limit 0 1 d.tail d.within (omega arith))
 
 -- seven brackets are within eight
 deeper_limit : (d n : ℕ) (t : Tail) → Within (up_to 7) d n t → Within (up_to 8) d n t
@@ -191,31 +191,31 @@ pub grammar : GrantedIsWhatTheGrammarDerives
 grammar t w =
     (λ e. let d = exact t w.mark w.nodes e in (d.0, to_derives limits t w.mark w.nodes d.1), λ d. sound t w.mark w.nodes d.0 (from_derives limits t w.mark w.nodes d.1))
 
-pub granted-lawful : GrantedIsLawful
-granted-lawful t w e = lawful 8 t w.mark w.nodes (exact t w.mark w.nodes e).1
+pub granted_lawful : GrantedIsLawful
+granted_lawful t w e = lawful 8 t w.mark w.nodes (exact t w.mark w.nodes e).1
 
 pub back : SpellingsReadBack
 back w l =
     let d = (written w.mark w.nodes l).derives in
-    let size : length (spelling w) ≤ 1024 = omega (arith, derived-size 7 _ w.mark w.nodes d) in
+    let size : length (spelling w) ≤ 1024 = omega (arith, derived_size 7 _ w.mark w.nodes d) in
     sound (spelling w) w.mark w.nodes size
     (record { name = d.name; tail = d.tail; one = d.one; lawful = d.lawful; within = deeper_limit 0 1 d.tail d.within; text = d.text; nodes = d.nodes })
 
 pub one_spelling : OneStandardSpelling
 one_spelling w l =
     let x = written w.mark w.nodes l in (
-      record { derived = to_derives (up_to 7) _ w.mark w.nodes x.derives; standard = to-standard (up_to 7) _ w.mark w.nodes x.derives x.standard },
-      derived-size 7 _ w.mark w.nodes x.derives,
-      λ k t s. only_tail k w.mark t w.nodes (from_derives k t w.mark w.nodes s.derived) (from-standard k t w.mark w.nodes s.derived s.standard),
+      record { derived = to_derives (up_to 7) _ w.mark w.nodes x.derives; standard = to_standard (up_to 7) _ w.mark w.nodes x.derives x.standard },
+      derived_size 7 _ w.mark w.nodes x.derives,
+      λ k t s. only_tail k w.mark t w.nodes (from_derives k t w.mark w.nodes s.derived) (from_standard k t w.mark w.nodes s.derived s.standard),
     )
 
 pub same_spelling : SameSpellingSameTwig
 same_spelling t t' w w' e e' =
-    (λ s. same_twig w w' (sym (back w (granted-lawful t w e)) ∙ ap read_pattern s ∙ back w' (granted-lawful t' w' e')), λ s. ap spelling s)
+    (λ s. same_twig w w' (sym (back w (granted_lawful t w e)) ∙ ap read_pattern s ∙ back w' (granted_lawful t' w' e')), λ s. ap spelling s)
 
-pub read-lawful : (t : List ℕ) (m : Mark) (vs : List Vertex) → reads t start 0 ≡ granted m vs → LawfulTwig vs
-read-lawful t m vs e = lawful 8 t m vs (exact_reads t m vs e)
+pub read_lawful : (t : List ℕ) (m : Mark) (vs : List Vertex) → reads t start 0 ≡ granted m vs → LawfulTwig vs
+read_lawful t m vs e = lawful 8 t m vs (exact_reads t m vs e)
 
 -- what is refused is not derived
-pub not-derived : (t : List ℕ) (f : Fault) → read_pattern t ≡ Err f → (w : Shape) → length t ≤ 1024 → Derives limits t w → ⊥
-not-derived t f e w l d = no_grant (sym e ∙ (grammar t w).1 (l, d))
+pub not_derived : (t : List ℕ) (f : Fault) → read_pattern t ≡ Err f → (w : Shape) → length t ≤ 1024 → Derives limits t w → ⊥
+not_derived t f e w l d = no_grant (sym e ∙ (grammar t w).1 (l, d))

@@ -33,7 +33,7 @@ pub data Phase : Type 0 where
   slash : Phase  -- the first `/` of an edge
   bracket : Phase  -- `[`
   dot : Phase  -- `[.`
-  dot-slash : Phase  -- `[./`
+  dot_slash : Phase  -- `[./`
   inside : Edge → List ℕ → Phase  -- an edge and these bytes of a name
   step : Phase  -- a name and what ended it, or `]`
 
@@ -96,8 +96,8 @@ next_in l s lead b = cond (b == 47) (go (marked s Any (edge Child))) (begin_in l
 next_in l s (edge e) b = begin_in l s e b
 next_in l s slash b = cond (b == 47) (go (to s (edge Descendant))) (begin_in l s Child b)
 next_in l s bracket b = cond (b == 46) (go (to s dot)) (begin_in l s Child b)
-next_in l s dot b = cond (b == 47) (go (to s dot-slash)) (stop Misfit)
-next_in l s dot-slash b = cond (b == 47) (go (to s (edge Descendant))) (stop Misfit)
+next_in l s dot b = cond (b == 47) (go (to s dot_slash)) (stop Misfit)
+next_in l s dot_slash b = cond (b == 47) (go (to s (edge Descendant))) (stop Misfit)
 next_in l s (inside e a) b =
     cond (name_byte b) (cond (nat_le l.bytes (length a)) (stop PatternNameTooLong) (go (to s (inside e (a ++ b ∷ []))))) (beyond_in l (settle s e a) b)
 next_in l s step b = beyond_in l s b
@@ -123,7 +123,7 @@ finish s (edge e) k = refused Misfit k
 finish s slash k = refused Misfit k
 finish s bracket k = refused Misfit k
 finish s dot k = refused Misfit k
-finish s dot-slash k = refused Misfit k
+finish s dot_slash k = refused Misfit k
 finish s (inside e a) k = complete (settle s e a) s.brackets k
 finish s step k = complete s s.brackets k
 

@@ -51,6 +51,6 @@ pub record LawfulTwig (nodes : List Vertex) : Type 0 where
   pub few : length nodes ≤ 16
   pub named : Every (λ (v : Vertex). LawfulName v.name) nodes
   pub root : (node_at nodes 0).parent ≡ 0
-  pub root-edge : (node_at nodes 0).edge ≡ Child
+  pub root_edge : (node_at nodes 0).edge ≡ Child
   pub lower : (c : ℕ) → 0 < c → c < length nodes → (node_at nodes c).parent < c
   pub runs : (b c : ℕ) → c < length nodes → (node_at nodes c).parent < b → b < c → (node_at nodes c).parent ≤ (node_at nodes b).parent

@@ -11,15 +11,15 @@ use Rattle.report.specs.Lines.{element_line}
 
 module _ (bs : List ℕ) (l : LawfulSheet bs) (k : ℕ) (e : Element) (h : k < element_count bs) (is : element_in bs k ≡ Some e) where
   -- element k
-  element-at : e ≡ element_at bs k
-  element-at = let s : Some e ≡ Some (element_at bs k) = sym is ∙ cond-true _ _ _ (lt-ltb k (element_count bs) h) in cc
+  element_at_lem : e ≡ element_at bs k
+  element_at_lem = let s : Some e ≡ Some (element_at bs k) = sym is ∙ cond-true _ _ _ (lt-ltb k (element_count bs) h) in cc
 
   pub element_inside : e ≡ get_or (elements_of bs) k blank
-  element_inside = element-at ∙ sym (get_or-elements_of bs k h)
+  element_inside = element_at_lem ∙ sym (get_or-elements_of bs k h)
 
   -- it has a name
   name_known : e.name < name_count bs
-  name_known = let n = (l.elements k h).numbers.named in omega (arith, ap (λ (x : Element). x.name) element-at)
+  name_known = let n = (l.elements k h).numbers.named in omega (arith, ap (λ (x : Element). x.name) element_at_lem)
 
   pub name_found : (r : Option (Bor (List ℕ))) → NameIn bs e.name r → is_some r ≡ true
   name_found (Some text) n = refl

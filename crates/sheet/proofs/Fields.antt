@@ -18,15 +18,15 @@ both : (r : Result (Unit {0}) Fault) (k : Result (Unit {0}) Fault) → and_then 
 both (Ok tt) k e = (refl, e)
 both (Err f) k e = let z : ◌≡◌ {A = ℕ} 0 1 = cc in absurd (omega arith)
 
-numbers-below : (n : ℕ) (es : List Element) (o : ℕ) → numbers_fit n es o ≡ Ok tt → (k : ℕ) → k < length es → (get_or es k blank).name < n
-numbers-below n [] o h k l = absurd (omega arith)
-numbers-below n (e ∷ es) o h zero l = leb-false _ _ (granted _ _ _ h).0
-numbers-below n (e ∷ es) o h (suc k) l = numbers-below n es (o + 16) (granted _ _ _ h).1 k (omega arith)
+numbers_below : (n : ℕ) (es : List Element) (o : ℕ) → numbers_fit n es o ≡ Ok tt → (k : ℕ) → k < length es → (get_or es k blank).name < n
+numbers_below n [] o h k l = absurd (omega arith)
+numbers_below n (e ∷ es) o h zero l = leb-false _ _ (granted _ _ _ h).0
+numbers_below n (e ∷ es) o h (suc k) l = numbers_below n es (o + 16) (granted _ _ _ h).1 k (omega arith)
 
-names-short : (ts : List (List ℕ)) (o : ℕ) → names_fit ts o ≡ Ok tt → (j : ℕ) → j < length ts → length (get_or ts j []) ≤ 32
-names-short [] o h j l = absurd (omega arith)
-names-short (t ∷ ts) o h zero l = ltb-false _ _ (granted _ _ _ h).0
-names-short (t ∷ ts) o h (suc j) l = names-short ts (o + 12) (granted _ _ _ h).1 j (omega arith)
+names_short : (ts : List (List ℕ)) (o : ℕ) → names_fit ts o ≡ Ok tt → (j : ℕ) → j < length ts → length (get_or ts j []) ≤ 32
+names_short [] o h j l = absurd (omega arith)
+names_short (t ∷ ts) o h zero l = ltb-false _ _ (granted _ _ _ h).0
+names_short (t ∷ ts) o h (suc j) l = names_short ts (o + 12) (granted _ _ _ h).1 j (omega arith)
 
 -- What is granted.
 
@@ -44,8 +44,8 @@ roomy es ts h =
     record {
       elements = ltb-false _ _ a.0;
       names = ltb-false _ _ b.0;
-      named = numbers-below (length ts) es 32 c.0;
-      short = names-short ts (32 + 16 * length es) c.1;
+      named = numbers_below (length ts) es 32 c.0;
+      short = names_short ts (32 + 16 * length es) c.1;
     }
 
 -- What is roomy is granted.
@@ -77,37 +77,37 @@ module _ (n : ℕ) (es : List Element) (k : ℕ) (h : k < length es) where
   pub numbers_more : (get_or es k blank).name < n → numbers_fit n (drop k es) (32 + 16 * k) ≡ numbers_fit n (drop (k + 1) es) (32 + 16 * (k + 1))
   numbers_more l = step ∙ cond-false _ _ _ (lt-leb _ _ l)
 
-  pub numbers-stop : n ≤ (get_or es k blank).name → numbers_fit n (drop k es) (32 + 16 * k) ≡ Err (fault ElementRecord (32 + 16 * k))
-  numbers-stop l = step ∙ cond-true _ _ _ (le-leb _ _ l)
+  pub numbers_stop : n ≤ (get_or es k blank).name → numbers_fit n (drop k es) (32 + 16 * k) ≡ Err (fault ElementRecord (32 + 16 * k))
+  numbers_stop l = step ∙ cond-true _ _ _ (le-leb _ _ l)
 
 module _ (ts : List (List ℕ)) (o j : ℕ) (h : j < length ts) where
-  step-name : names_fit (drop j ts) (o + 12 * j) ≡ cond (ltb 32 (length (get_or ts j []))) (Err (fault NameRecord (o + 12 * j))) (names_fit (drop (j + 1) ts) (o + 12 * (j + 1)))
-  step-name =
+  step_name : names_fit (drop j ts) (o + 12 * j) ≡ cond (ltb 32 (length (get_or ts j []))) (Err (fault NameRecord (o + 12 * j))) (names_fit (drop (j + 1) ts) (o + 12 * (j + 1)))
+  step_name =
       at_drop_more (λ (xs : List (List ℕ)). names_fit xs (o + 12 * j)) ts j [] h
       ∙ ap (λ (p : ℕ). cond (ltb 32 (length (get_or ts j []))) (Err (fault NameRecord (o + 12 * j))) (names_fit (drop (j + 1) ts) p)) (omega arith)
 
   pub names_more : length (get_or ts j []) ≤ 32 → names_fit (drop j ts) (o + 12 * j) ≡ names_fit (drop (j + 1) ts) (o + 12 * (j + 1))
-  names_more l = step-name ∙ cond-false _ _ _ (le-ltb _ _ l)
+  names_more l = step_name ∙ cond-false _ _ _ (le-ltb _ _ l)
 
-  pub names-stop : 32 < length (get_or ts j []) → names_fit (drop j ts) (o + 12 * j) ≡ Err (fault NameRecord (o + 12 * j))
-  names-stop l = step-name ∙ cond-true _ _ _ (lt-ltb _ _ l)
+  pub names_stop : 32 < length (get_or ts j []) → names_fit (drop j ts) (o + 12 * j) ≡ Err (fault NameRecord (o + 12 * j))
+  names_stop l = step_name ∙ cond-true _ _ _ (lt-ltb _ _ l)
 
 -- The answer, from its parts.
 
 module _ (es : List Element) (ts : List (List ℕ)) (n : ℕ) (names : length ts ≡ n) (few : length es ≤ 65535) where
-  pub names-many : 1024 < n → fields_fit es ts ≡ Err (fault HeaderField 8)
-  names-many l = cond-false _ _ _ (le-ltb _ _ few) ∙ cond-true _ _ _ (lt-ltb 1024 (length ts) (omega arith))
+  pub names_many : 1024 < n → fields_fit es ts ≡ Err (fault HeaderField 8)
+  names_many l = cond-false _ _ _ (le-ltb _ _ few) ∙ cond-true _ _ _ (lt-ltb 1024 (length ts) (omega arith))
 
   pub counts_fit : n ≤ 1024 → fields_fit es ts ≡ and_then (numbers_fit n es 32) (λ _. names_fit ts (32 + 16 * length es))
   counts_fit l =
       cond-false _ _ _ (le-ltb _ _ few)
       ∙ (cond-false _ _ _ (le-ltb 1024 (length ts) (omega arith)) ∙ ap (λ (m : ℕ). and_then (numbers_fit m es 32) (λ _. names_fit ts (32 + 16 * length es))) names)
 
-pub then-granted : (r k : Result (Unit {0}) Fault) (u : Unit {0}) → Ok u ≡ r → k ≡ and_then r (λ _. k)
-then-granted r k u e = ap (λ x. and_then x (λ _. k)) e
+pub then_granted : (r k : Result (Unit {0}) Fault) (u : Unit {0}) → Ok u ≡ r → k ≡ and_then r (λ _. k)
+then_granted r k u e = ap (λ x. and_then x (λ _. k)) e
 
-pub then-refused : (r k : Result (Unit {0}) Fault) (f : Fault) → Err f ≡ r → Err f ≡ and_then r (λ _. k)
-then-refused r k f e = ap (λ x. and_then x (λ _. k)) e
+pub then_refused : (r k : Result (Unit {0}) Fault) (f : Fault) → Err f ≡ r → Err f ≡ and_then r (λ _. k)
+then_refused r k f e = ap (λ x. and_then x (λ _. k)) e
 
 module _ (es : List Element) (ts : List (List ℕ)) (room total : ℕ) (u : Unit {0}) (fit : Ok u ≡ fields_fit es ts) (is : total ≡ length (encoded es ts)) where
   by_room : cond (ltb room total) (Err (fault SheetWontFit total)) (Ok total) ≡ encodes es ts room
@@ -115,8 +115,8 @@ module _ (es : List Element) (ts : List (List ℕ)) (room total : ℕ) (u : Unit
       ap (λ (n : ℕ). cond (ltb room n) (Err (fault SheetWontFit n)) (Ok n)) is
       ∙ ap (λ (r : Result (Unit {0}) Fault). and_then r (λ _. cond (ltb room (length (encoded es ts))) (Err (fault SheetWontFit (length (encoded es ts)))) (Ok (length (encoded es ts))))) fit
 
-  pub encodes-short : room < total → Err (fault SheetWontFit total) ≡ encodes es ts room
-  encodes-short l = sym (cond-true _ _ _ (lt-ltb _ _ l)) ∙ by_room
+  pub encodes_short : room < total → Err (fault SheetWontFit total) ≡ encodes es ts room
+  encodes_short l = sym (cond-true _ _ _ (lt-ltb _ _ l)) ∙ by_room
 
-  pub encodes-whole : total ≤ room → Ok total ≡ encodes es ts room
-  encodes-whole l = sym (cond-false _ _ _ (le-ltb _ _ l)) ∙ by_room
+  pub encodes_whole : total ≤ room → Ok total ≡ encodes es ts room
+  encodes_whole l = sym (cond-false _ _ _ (le-ltb _ _ l)) ∙ by_room

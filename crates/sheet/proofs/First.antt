@@ -9,8 +9,8 @@ use Rattle.sheet.specs.Viewing.{first_tree}
 each : (i : ℕ) → i < 1 → i ≡ 0
 each i h = omega arith
 
-first-tree : LawfulTree first_tree
-first-tree = record {
+first_tree_lem : LawfulTree first_tree
+first_tree_lem = record {
   regions = record {
     some = lit≤ tt;
     few = lit≤ tt;
@@ -26,5 +26,5 @@ first-tree = record {
   used = (lit≤ tt, refl);
 }
 
-pub first-lawful : LawfulSheet (sheet_of first_tree)
-first-lawful = (sheet_reads_back first_tree first-tree).0
+pub first_lawful : LawfulSheet (sheet_of first_tree)
+first_lawful = (sheet_reads_back first_tree first_tree_lem).0

@@ -4,7 +4,7 @@ use Rattle.std.proofs.lemmas.List.{get_or-set_same, get_or-set_other, get_or-rep
 use Rattle.std.proofs.lemmas.Bool.{cases_eq}
 use Rattle.layout.specs.Layout.{element_count, element_at, next_at}
 use Rattle.layout.specs.Lawful.{FirstFrom, FirstNamed}
-use Rattle.layout.proofs.Firsts.{first_unique, first-none, first_yes, first_no}
+use Rattle.layout.proofs.Firsts.{first_unique, first_none, first_yes, first_no}
 use Rattle.sheet.specs.Links.{RightNext, LinkedFrom, Firsts}
 
 pub linked_none : (bs : List ℕ) (m : ℕ) → m ≡ element_count bs → LinkedFrom bs m m
@@ -14,7 +14,7 @@ linked_none bs m e = record
 pub firsts_none : (bs : List ℕ) (m : ℕ) → m ≡ element_count bs → Firsts bs m (replicate 1024 m)
 firsts_none bs m e n h =
     let g = get_or-replicate 1024 n m 0 h in
-    rw g (subst (λ (x : ℕ). FirstFrom (λ k. (element_at bs k).name) x n m m) e (first-none (λ k. (element_at bs k).name) m n))
+    rw g (subst (λ (x : ℕ). FirstFrom (λ k. (element_at bs k).name) x n m m) e (first_none (λ k. (element_at bs k).name) m n))
 
 -- element k, where those from m on are done and x is its name number
 module _ (bs : List ℕ) (k m x : ℕ) (h : k < element_count bs) (next : m ≡ k + 1) (is : x ≡ (element_at bs k).name) (table : List ℕ) (f : Firsts bs m table) where

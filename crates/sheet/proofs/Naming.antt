@@ -25,5 +25,5 @@ right_name bs j end n false e o p w t f r = record {
 pub first_by : (bs table : List ℕ) (j f : ℕ) → Firsts bs 0 table → j < 1024 → f ≡ get_or table j 0 → FirstNamed bs j 0 f
 first_by bs table j f t h e = subst (FirstNamed bs j 0) (sym e) (t j h)
 
-pub first-only : (bs table : List ℕ) (j f : ℕ) → Firsts bs 0 table → j < 1024 → FirstNamed bs j 0 f → f ≡ get_or table j 0
-first-only bs table j f t h u = first_unique (λ i. (element_at bs i).name) (element_count bs) j 0 f (get_or table j 0) u (t j h)
+pub first_only : (bs table : List ℕ) (j f : ℕ) → Firsts bs 0 table → j < 1024 → FirstNamed bs j 0 f → f ≡ get_or table j 0
+first_only bs table j f t h u = first_unique (λ i. (element_at bs i).name) (element_count bs) j 0 f (get_or table j 0) u (t j h)

@@ -38,8 +38,8 @@ module _ (es : List Element) (m : ℕ) (past : length es ≤ m) where
   pub table_none : (s : List ℕ) → Puts (element_table (drop m es) m) s (32 + 16 * m) s
   table_none s = let d = drop_all m es past in rw d (puts_none s (32 + 16 * m))
 
-  pub seek-none : (n : ℕ) → n < 1024 → get_or (replicate 1024 m) n 0 ≡ seek n (drop m es) m
-  seek-none n h = let d = drop_all m es past in rw d (get_or-replicate 1024 n m 0 h)
+  pub seek_none : (n : ℕ) → n < 1024 → get_or (replicate 1024 m) n 0 ≡ seek n (drop m es) m
+  seek_none n h = let d = drop_all m es past in rw d (get_or-replicate 1024 n m 0 h)
 
 -- element k, from the back, where those from m on are done
 module _ (es : List Element) (k m : ℕ) (h : k < length es) (next : m ≡ k + 1) where

@@ -7,7 +7,7 @@ use Rattle.markup.specs.Faults.{fault, and_then}
 use Rattle.layout.specs.Layout.{element_count, element_offset, next_at, name_count, name_at, name_offset}
 use Rattle.layout.specs.Lawful.{RightHeader, RightElement, LawfulSheet}
 use Rattle.layout.specs.Encoding.{sheet_of}
-use Rattle.layout.proofs.Encoded.{few-elements, named-below, names-short, sheet_reads_back}
+use Rattle.layout.proofs.Encoded.{few_elements, named_below, names_short, sheet_reads_back}
 use Rattle.sheet.specs.Opening.{FirstWrong, Each, Sized, WrongLength, WrongHeader, WrongElement, WrongName, Refused}
 use Rattle.sheet.specs.Viewing.{next_in, first_in}
 use Rattle.sheet.specs.Laws.{LawfulTreesAreEncoded, EncodingsOpen, OpeningHasOneAnswer, ChainsFollowNames}
@@ -19,7 +19,7 @@ pub lawful_trees_are_encoded : LawfulTreesAreEncoded
 lawful_trees_are_encoded t law room =
     let es = t.elements in
     let ts = t.names in
-    let fit = fields_fit_lem es ts (record { elements = few-elements es ts law; names = law.few; named = named-below es ts law; short = names-short es ts law }) in
+    let fit = fields_fit_lem es ts (record { elements = few_elements es ts law; names = law.few; named = named_below es ts law; short = names_short es ts law }) in
     ap (λ (r : Result (Unit {0}) Fault). and_then r (λ _. cond (ltb room (length (sheet_of t))) (Err (fault SheetWontFit (length (sheet_of t)))) (Ok (length (sheet_of t))))) fit
 
 pub encodings_open : EncodingsOpen
@@ -110,12 +110,12 @@ chains_follow_names bs law = (
 
 -- no number that a view tells is past the count of elements
 module _ (bs : List ℕ) (law : ∥ LawfulSheet bs ∥₁) where
-  pub next-within : (k : ℕ) → next_in bs k ≤ element_count bs
-  next-within k =
+  pub next_within : (k : ℕ) → next_in bs k ≤ element_count bs
+  next_within k =
       cond_both (ltb k (element_count bs)) (next_at bs k) (element_count bs) (λ n. n ≤ element_count bs)
       (λ e. ((lawful_of bs law).elements k (ltb-true _ _ e)).numbers.next.within) (λ e. omega arith)
 
-  pub first-within : (j : ℕ) → first_in bs j ≤ element_count bs
-  first-within j =
+  pub first_within : (j : ℕ) → first_in bs j ≤ element_count bs
+  first_within j =
       cond_both (ltb j (name_count bs)) (name_at bs j).first (element_count bs) (λ n. n ≤ element_count bs)
       (λ e. ((lawful_of bs law).names j (ltb-true _ _ e)).first.within) (λ e. omega arith)

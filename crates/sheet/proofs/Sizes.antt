@@ -27,9 +27,9 @@ text_is bs j t n p q =
 pub lawful_sized : (bs : List ℕ) → ∥ LawfulSheet bs ∥₁ → Sized bs
 lawful_sized bs h = let l = lawful_of bs h in (l.header, l.size)
 
-pub lawful-length : (bs : List ℕ) → ∥ LawfulSheet bs ∥₁ → length bs ≡ bytes_offset bs + byte_count bs
-lawful-length bs h = (lawful_of bs h).size
+pub lawful_length : (bs : List ℕ) → ∥ LawfulSheet bs ∥₁ → length bs ≡ bytes_offset bs + byte_count bs
+lawful_length bs h = (lawful_of bs h).size
 
 -- its names stand among its name bytes
-pub lawful-text : (bs : List ℕ) → ∥ LawfulSheet bs ∥₁ → (j : ℕ) → j < name_count bs → (name_at bs j).offset + (name_at bs j).length ≤ byte_count bs
-lawful-text bs h j l = ((lawful_of bs h).names j l).within
+pub lawful_text : (bs : List ℕ) → ∥ LawfulSheet bs ∥₁ → (j : ℕ) → j < name_count bs → (name_at bs j).offset + (name_at bs j).length ≤ byte_count bs
+lawful_text bs h j l = ((lawful_of bs h).names j l).within

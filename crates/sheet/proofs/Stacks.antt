@@ -66,8 +66,8 @@ module _ (reg : ℕ → Region) (k : ℕ) (stack : List ℕ) (d : ℕ) (before :
         let w = s.levels (d - 1) (omega arith) in
         c₁ ∙ (rw (c₂, c₃) (omega arith))
 
-    pub depth-count : count_below (λ j. contains (reg j) (reg k)) k ≡ d
-    depth-count =
+    pub depth_count : count_below (λ j. contains (reg j) (reg k)) k ≡ d
+    depth_count =
         ⊎_elim (λ (p : 0 < d). some p) (λ (p : d ≤ 0). let z : d ≡ 0 = omega arith in none z ∙ sym z) (cases_lt 0 d)
 
 pub rises : (reg : ℕ → Region) (k : ℕ) → ((j : ℕ) → j < k → Fits reg j) → (0 < k → (reg (k - 1)).start < (reg k).start)
@@ -90,7 +90,7 @@ module _ (reg : ℕ → Region) (k : ℕ) (stack : List ℕ) (d : ℕ) (before :
   where
     pub right_depth : Fits reg k → (d ≡ (reg k).level) × (d ≡ 0 → k ≡ 0)
     right_depth r =
-        let e = depth-count reg k stack d before s r.span r.rising r.nested top in
+        let e = depth_count reg k stack d before s r.span r.rising r.nested top in
         let f = r.counted in
         (omega arith, alone reg k stack d r s)
 
@@ -120,7 +120,7 @@ module _ (reg : ℕ → Region) (k : ℕ) (stack : List ℕ) (d : ℕ) (before :
           rising = rising;
           nested = nested;
           first = first;
-          counted = sym is ∙ sym (depth-count reg k stack d before s span rising nested top);
+          counted = sym is ∙ sym (depth_count reg k stack d before s span rising nested top);
         }
 
 -- element k is opened within the others

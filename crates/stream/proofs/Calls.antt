@@ -6,7 +6,7 @@ use Rattle.stream.proofs.Parts.{Rising}
 use Rattle.stream.specs.Lists.{update, rest, drop_until, past, around, halts, first_passes, NoneOrPasses}
 use Rattle.stream.specs.Narrowing.{narrowed}
 use Rattle.stream.proofs.Positions.{update-update, update_here, update_same, update_fixed, same_update}
-use Rattle.stream.proofs.Narrow.{until_rest, until_fixed, narrowed-update, update-narrowed, kept_rest, rest_kept, kept_until, until_kept_until, past_until, past-halts, if_passes, halts_kept, kept_past, past_halts_too, passes_kept, past-not-around}
+use Rattle.stream.proofs.Narrow.{until_rest, until_fixed, narrowed-update, update-narrowed, kept_rest, rest_kept, kept_until, until_kept_until, past_until, past_halts, if_passes, halts_kept, kept_past, past_halts_too, passes_kept, past_not_around}
 
 length_until : (p : Region → Bool) (xs : List Region) → length (drop_until p xs) ≤ length xs
 length_until p [] = omega arith
@@ -16,9 +16,9 @@ length_rest : (p : Region → Bool) (xs : List Region) → first_passes p xs ≡
 length_rest p [] e = absurd (true≢false (sym e))
 length_rest p (x ∷ xs) e = omega arith
 
-around-halts : (s : ℕ) (xs : List Region) → first_passes (around s) xs ≡ true → NoneOrPasses (halts s) xs
-around-halts s [] e = tt
-around-halts s (x ∷ xs) e = or_left (around s x) (past s x) e
+around_halts : (s : ℕ) (xs : List Region) → first_passes (around s) xs ≡ true → NoneOrPasses (halts s) xs
+around_halts s [] e = tt
+around_halts s (x ∷ xs) e = or_left (around s x) (past s x) e
 
 -- the steps of a skip by `tell` and `advance`
 module _ (p : Region → Bool) (lists : ℕ → List Region) (i : ℕ) where
@@ -57,15 +57,15 @@ module _ (keep : ℕ → Region → Bool) (lists after : ℕ → List Region) (i
       pub found : first_passes (keep i) (after i) ≡ true → first_passes (around s) (drop_until (halts s) (lists i)) ≡ true → (narrowed keep after ≡ update i (drop_until (halts s)) (narrowed keep lists)) × (first_passes (around s) (drop_until (halts s) (narrowed keep lists i)) ≡ true)
       found k l =
           let passes : NoneOrPasses (keep i) (drop_until (halts s) (lists i)) = if_passes (keep i) _ (sym (ap (first_passes (keep i)) here) ∙ k) in
-          let halt = halts_kept (keep i) (halts s) _ passes (around-halts s _ l) in
+          let halt = halts_kept (keep i) (halts s) _ passes (around_halts s _ l) in
           (settled halt, ap (first_passes (around s)) (sym (kept_until (keep i) (halts s) (lists i) halt)) ∙ passes_kept (keep i) (around s) _ passes ∙ l)
 
       -- it found none
       pub missed : Rising (lists i) → first_passes (around s) (drop_until (halts s) (lists i)) ≡ false → (narrowed keep after ≡ update i (drop_until (halts s)) (narrowed keep lists)) × (first_passes (around s) (drop_until (halts s) (narrowed keep lists i)) ≡ false)
       missed up l =
-          let passes = kept_past s (keep i) _ (past-halts s (lists i) up l) in
+          let passes = kept_past s (keep i) _ (past_halts s (lists i) up l) in
           let halt = past_halts_too s _ passes in
-          (settled halt, ap (first_passes (around s)) (sym (kept_until (keep i) (halts s) (lists i) halt)) ∙ past-not-around s _ passes)
+          (settled halt, ap (first_passes (around s)) (sym (kept_until (keep i) (halts s) (lists i) halt)) ∙ past_not_around s _ passes)
 
       module _ (next : ℕ → List Region) (n : next ≡ update i rest after) where
         -- the region that it found is passed over

@@ -83,14 +83,14 @@ module _ (s : ℕ) where
   past_until [] up = tt
   past_until (x ∷ xs) up = cond_both (past s x) _ _ (Every (λ y. past s y ≡ true)) (past_all x xs up) (λ _. past_until xs up.1)
 
-  halts-step : (a b : Bool) (x : Region) (xs ys : List Region) → around s x ≡ a → past s x ≡ b → Rising (x ∷ xs) → (first_passes (around s) ys ≡ false → Every (λ y. past s y ≡ true) ys) → first_passes (around s) (cond (a || b) (x ∷ xs) ys) ≡ false → Every (λ y. past s y ≡ true) (cond (a || b) (x ∷ xs) ys)
-  halts-step true b x xs ys f g up h e = absurd (let z : true ≡ false = sym f ∙ e in let w : ◌≡◌ {A = ℕ} 0 1 = cc in omega arith)
-  halts-step false true x xs ys f g up h e = past_all x xs up g
-  halts-step false false x xs ys f g up h e = h e
+  halts_step : (a b : Bool) (x : Region) (xs ys : List Region) → around s x ≡ a → past s x ≡ b → Rising (x ∷ xs) → (first_passes (around s) ys ≡ false → Every (λ y. past s y ≡ true) ys) → first_passes (around s) (cond (a || b) (x ∷ xs) ys) ≡ false → Every (λ y. past s y ≡ true) (cond (a || b) (x ∷ xs) ys)
+  halts_step true b x xs ys f g up h e = absurd (let z : true ≡ false = sym f ∙ e in let w : ◌≡◌ {A = ℕ} 0 1 = cc in omega arith)
+  halts_step false true x xs ys f g up h e = past_all x xs up g
+  halts_step false false x xs ys f g up h e = h e
 
-  pub past-halts : (xs : List Region) → Rising xs → first_passes (around s) (drop_until (halts s) xs) ≡ false → Every (λ x. past s x ≡ true) (drop_until (halts s) xs)
-  past-halts [] up = λ _. tt
-  past-halts (x ∷ xs) up = halts-step (around s x) (past s x) x xs (drop_until (halts s) xs) refl refl up (past-halts xs up.1)
+  pub past_halts : (xs : List Region) → Rising xs → first_passes (around s) (drop_until (halts s) xs) ≡ false → Every (λ x. past s x ≡ true) (drop_until (halts s) xs)
+  past_halts [] up = λ _. tt
+  past_halts (x ∷ xs) up = halts_step (around s x) (past s x) x xs (drop_until (halts s) xs) refl refl up (past_halts xs up.1)
 
   pub kept_past : (keep : Region → Bool) (xs : List Region) → Every (λ x. past s x ≡ true) xs → NoneOrPasses (past s) (filter keep xs)
   kept_past keep xs h = if_all _ _ (all_kept_by keep _ _ h)
@@ -99,9 +99,9 @@ module _ (s : ℕ) where
   past_halts_too [] h = tt
   past_halts_too (x ∷ xs) h = or_right (around s x) (past s x) h
 
-  pub past-not-around : (xs : List Region) → NoneOrPasses (past s) xs → first_passes (around s) xs ≡ false
-  past-not-around [] h = refl
-  past-not-around (x ∷ xs) h = and_left _ _ (le-ltb x.start s (let k = ltb-true s x.start h in omega arith))
+  pub past_not_around : (xs : List Region) → NoneOrPasses (past s) xs → first_passes (around s) xs ≡ false
+  past_not_around [] h = refl
+  past_not_around (x ∷ xs) h = and_left _ _ (le-ltb x.start s (let k = ltb-true s x.start h in omega arith))
 
 module _ (keep : ℕ → Region → Bool) (lists : ℕ → List Region) (i : ℕ) where
   -- a change at one position, below and above

@@ -29,13 +29,13 @@ update_id i lists = fun_ext (λ j. cond_both (eqb j i) _ _ (λ xs. xs ≡ lists 
 pub update_fixed : (i : ℕ) (f : List Region → List Region) (lists : ℕ → List Region) → f (lists i) ≡ lists i → update i f lists ≡ lists
 update_fixed i f lists h = update_same i f (λ xs. xs) lists h ∙ update_id i lists
 
-pub nil-from-first : (xs : List Region) → first xs ≡ None → xs ≡ []
-nil-from-first [] e = refl
-nil-from-first (x ∷ xs) e = cc
+pub nil_from_first : (xs : List Region) → first xs ≡ None → xs ≡ []
+nil_from_first [] e = refl
+nil_from_first (x ∷ xs) e = cc
 
-pub cons-from-first : (xs : List Region) (r : Region) → first xs ≡ Some r → xs ≡ r ∷ rest xs
-cons-from-first [] r e = cc
-cons-from-first (x ∷ xs) r e = cc
+pub cons_from_first : (xs : List Region) (r : Region) → first xs ≡ Some r → xs ≡ r ∷ rest xs
+cons_from_first [] r e = cc
+cons_from_first (x ∷ xs) r e = cc
 
 pub same_update : (i : ℕ) (f g : List Region → List Region) (xs ys : ℕ → List Region) → update i f xs ≡ update i g ys → f (xs i) ≡ g (ys i)
 same_update i f g xs ys e = sym (update_here i f xs) ∙ ap (λ lists. lists i) e ∙ update_here i g ys

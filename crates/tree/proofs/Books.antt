@@ -31,11 +31,11 @@ count_tail f m (suc n) l h =
 -- Two regions.
 
 -- the later one, where it starts before the earlier ends
-pub contains-later : (u v : Region) → v.start < v.end → NestedOrApart u v → u.start < v.start → v.start ≤ u.end → Contains u v
-contains-later u v span (inl c) h k = c
-contains-later u v span (inr (inl c)) h k = absurd (omega (arith, c.0))
-contains-later u v span (inr (inr (inl c))) h k = absurd (omega arith)
-contains-later u v span (inr (inr (inr c))) h k = absurd (omega arith)
+pub contains_later : (u v : Region) → v.start < v.end → NestedOrApart u v → u.start < v.start → v.start ≤ u.end → Contains u v
+contains_later u v span (inl c) h k = c
+contains_later u v span (inr (inl c)) h k = absurd (omega (arith, c.0))
+contains_later u v span (inr (inr (inl c))) h k = absurd (omega arith)
+contains_later u v span (inr (inr (inr c))) h k = absurd (omega arith)
 
 -- none contains one that does not start later
 later_no : (u v : Region) → v.start ≤ u.start → contains u v ≡ false
@@ -78,7 +78,7 @@ module _ (r : ℕ → Region) where
     depth = (b.each k h).2;
     rising = λ j l. b.rising j k l h;
     nested = λ j l m.
-        (contains-later (r j) (r k) (b.each k h).0 (b.apart j k (omega arith) h (λ e. omega arith)) (b.rising j k l h) m).1;
+        (contains_later (r j) (r k) (b.each k h).0 (b.apart j k (omega arith) h (λ e. omega arith)) (b.rising j k l h) m).1;
     counted =
         b.counted k h
         ∙ count_tail (λ j. contains (r j) (r k)) k n (omega arith) (λ j l m. later_no (r j) (r k) (from k j l (λ o. b.rising k j o m)));
@@ -144,32 +144,32 @@ starts_tell_containment rs b u v hu hv h k =
     let p : at rs i ≡ u = hu.2 _ in
     let q : at rs j ≡ v = hv.2 _ in
     let ne : i ≡ j → ⊥ = λ e. let same : u ≡ v = sym p ∙ ap (at rs) e ∙ q in omega (arith, ap (λ (r : Region). r.start) same) in
-    contains-later u v (subst (λ (r : Region). r.start < r.end) q (b.each j hv.1).0)
+    contains_later u v (subst (λ (r : Region). r.start < r.end) q (b.each j hv.1).0)
     (subst (λ (r : Region). NestedOrApart u r) q (subst (λ (r : Region). NestedOrApart r (at rs j)) p (b.apart i j hu.1 hv.1 ne))) h k
 
 -- Parts.
 
-rising-from : (r : Region) (rs : List Region) → ((i j : ℕ) → i < j → j < suc (length rs) → (at (r ∷ rs) i).start < (at (r ∷ rs) j).start) → Rising (r ∷ rs)
-rising-from r [] h = (tt, tt)
-rising-from r (s ∷ rs) h = (
+rising_from : (r : Region) (rs : List Region) → ((i j : ℕ) → i < j → j < suc (length rs) → (at (r ∷ rs) i).start < (at (r ∷ rs) j).start) → Rising (r ∷ rs)
+rising_from r [] h = (tt, tt)
+rising_from r (s ∷ rs) h = (
   All-from_get_or (λ (x : Region). r.start < x.start) (s ∷ rs) _ (λ i l. h 0 (suc i) (omega arith) (omega arith)),
-  rising-from s rs (λ i j l k. h (suc i) (suc j) (omega arith) (omega arith)),
+  rising_from s rs (λ i j l k. h (suc i) (suc j) (omega arith) (omega arith)),
 )
 
 pub rising_list : (rs : List Region) → LawfulBook rs → Rising rs
 rising_list [] b = tt
-rising_list (r ∷ rs) b = rising-from r rs b.rising
+rising_list (r ∷ rs) b = rising_from r rs b.rising
 
-all-part : (P : Region → Type 0) {xs ys : List Region} → Sublistᴰ xs ys → Every P ys → Every P xs
-all-part P Sublistᴰ.slnil h = h
-all-part P (Sublistᴰ.cons s) h = all-part P s h.1
-all-part P (Sublistᴰ.cons-cons e s) h = (subst P (sym e) h.0, all-part P s h.1)
+all_part : (P : Region → Type 0) {xs ys : List Region} → Sublistᴰ xs ys → Every P ys → Every P xs
+all_part P Sublistᴰ.slnil h = h
+all_part P (Sublistᴰ.cons s) h = all_part P s h.1
+all_part P (Sublistᴰ.cons-cons e s) h = (subst P (sym e) h.0, all_part P s h.1)
 
 rising_part : {xs ys : List Region} → Sublistᴰ xs ys → Rising ys → Rising xs
 rising_part Sublistᴰ.slnil h = h
 rising_part (Sublistᴰ.cons s) h = rising_part s h.1
 rising_part (Sublistᴰ.cons-cons {l₁ = xs} e s) h =
-    (subst (λ (u : Region). Every (λ v. u.start < v.start) xs) (sym e) (all-part _ s h.0), rising_part s h.1)
+    (subst (λ (u : Region). Every (λ v. u.start < v.start) xs) (sym e) (all_part _ s h.0), rising_part s h.1)
 
 pub parts_rise : PartsRise
-parts_rise rs part b s = (rising_part s (rising_list rs b), all-part (Has rs) s (all_has_itself rs))
+parts_rise rs part b s = (rising_part s (rising_list rs b), all_part (Has rs) s (all_has_itself rs))

@@ -74,9 +74,9 @@ module _ (f : ℕ → ℕ) (n : ℕ) (u : ℕ → ℕ) (by : UsedBy f n u) where
 
   module _ (fresh : (k : ℕ) → k < n → f k ≤ u k) where
     -- no more name numbers than elements
-    pub used-few : (k : ℕ) → k ≤ n → u k ≤ k
-    used-few zero h = omega (arith, by.0)
-    used-few (suc k) h = omega (arith, used-few k (omega arith), fresh k h, by.1 k h)
+    pub used_few : (k : ℕ) → k ≤ n → u k ≤ k
+    used_few zero h = omega (arith, by.0)
+    used_few (suc k) h = omega (arith, used_few k (omega arith), fresh k h, by.1 k h)
 
     -- each number below the count is some element's
     pub used_found : (k j : ℕ) → k ≤ n → j < u k → (i : ℕ) × (i < k) × (f i ≡ j)

@@ -1,5 +1,5 @@
 use Rattle.std.proofs.Common.{◌≡◌, length, get_or, sym, ap, ◌∙◌, arith}
-use Rattle.lexer.proofs.Fronts.{byte-within}
+use Rattle.lexer.proofs.Fronts.{byte_within}
 use Rattle.lexer.proofs.Tokens.{end_token}
 use Rattle.lexer.proofs.lexer.end_tag.Goals as goal
 use Rattle.lexer.proofs.lexer.end_tag.Goals.{In-62}
@@ -11,7 +11,7 @@ closed c = sym c.byte_at.ensures ∙ c.in-62.is
 pub tag-requires : goal.tag-requires
 tag-requires c =
     let long = ap (λ l. length l) c.requires.begins in
-    let close = byte-within c.args.after.now c.in_ok-len.len 62 (closed c) (omega arith) in
+    let close = byte_within c.args.after.now c.in_ok-len.len 62 (closed c) (omega arith) in
     record { room = c.requires.room; inside = (omega arith, omega arith) }
 
 pub returns-in-62 : goal.returns-in-62

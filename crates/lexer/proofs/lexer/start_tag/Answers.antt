@@ -1,5 +1,5 @@
 use Rattle.std.proofs.Common.{◌≡◌, ◌+◌, length, get_or, sym, ap, ◌∙◌, arith}
-use Rattle.lexer.proofs.Fronts.{byte-within}
+use Rattle.lexer.proofs.Fronts.{byte_within}
 use Rattle.lexer.proofs.Tokens.{start_token, empty_token}
 use Rattle.lexer.proofs.lexer.start_tag.Goals as goal
 use Rattle.lexer.proofs.lexer.start_tag.Goals.{In-62, In-47, Then-close-eq62}
@@ -19,19 +19,19 @@ emptied c = sym c.byte_at-close.ensures ∙ c.if-close-eq62.true
 pub tag-requires : goal.tag-requires
 tag-requires c =
     let long = ap (λ l. length l) c.requires.begins in
-    let close = byte-within c.args.after.now c.in_ok-len.len 62 (closed c) (omega arith) in
+    let close = byte_within c.args.after.now c.in_ok-len.len 62 (closed c) (omega arith) in
     record { room = c.requires.room; inside = (omega arith, omega arith) }
 
 pub tag-requires-then-close-eq62 : goal.tag-requires-then-close-eq62
 tag-requires-then-close-eq62 c =
     let long = ap (λ l. length l) c.requires.begins in
-    let close = byte-within c.args.after.now (c.in_ok-len.len + 1) 62 (emptied c) (omega arith) in
+    let close = byte_within c.args.after.now (c.in_ok-len.len + 1) 62 (emptied c) (omega arith) in
     record { room = c.requires.room; inside = (omega arith, omega arith) }
 
 pub overflow_add-place-else-close-eq62-2 : goal.overflow_add-place-else-close-eq62-2
 overflow_add-place-else-close-eq62-2 c =
     let long = ap (λ l. length l) c.requires.begins in
-    let slash = byte-within c.args.after.now c.in_ok-len.len 47 (slashed (goal.at.overflow_add-place-else-close-eq62-2 c).In-47) (omega arith) in
+    let slash = byte_within c.args.after.now c.in_ok-len.len 47 (slashed (goal.at.overflow_add-place-else-close-eq62-2 c).In-47) (omega arith) in
     omega arith
 
 pub returns-in-62 : goal.returns-in-62

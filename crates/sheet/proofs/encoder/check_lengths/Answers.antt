@@ -1,7 +1,7 @@
 use Rattle.std.proofs.Common.{ℕ, ◌+◌, ◌*◌, List, [], map, length, sym, ap, ◌∙◌, arith}
 use Rattle.std.proofs.lemmas.List.{length-map, get_or-map, drop_all}
 use Rattle.sheet.specs.Writing.{names_fit}
-use Rattle.sheet.proofs.Fields.{names_more, names-stop}
+use Rattle.sheet.proofs.Fields.{names_more, names_stop}
 use Rattle.sheet.proofs.encoder.check_lengths.Goals as goal
 
 pub loop-j-preserved : goal.loop-j-preserved
@@ -25,4 +25,4 @@ returns-then-name-gt-MOST_BYTES c =
     let xs = c.args.names.now in
     let n = length-map xs (λ x. x.now) in
     let g = ap length (get_or-map (λ x. x.now) xs j (record { ref_ptr = (0, 0); now = [] }) [] (omega arith)) in
-    sym (c.loop-j.invariant ∙ names-stop (map (λ x. x.now) xs) c.args.table j (omega arith) (omega arith))
+    sym (c.loop-j.invariant ∙ names_stop (map (λ x. x.now) xs) c.args.table j (omega arith) (omega arith))

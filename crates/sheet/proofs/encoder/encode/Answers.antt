@@ -3,7 +3,7 @@ use Rattle.std.proofs.lemmas.List.{length-map}
 use Rattle.tree.specs.declared.element.Element.{Element}
 use Rattle.layout.proofs.Tables.{length-encoded}
 use Rattle.sheet.specs.Writing.{fields_fit}
-use Rattle.sheet.proofs.Fields.{Roomy, roomy, encodes-short, encodes-whole}
+use Rattle.sheet.proofs.Fields.{Roomy, roomy, encodes_short, encodes_whole}
 use Rattle.sheet.proofs.Parts.{sheet_written}
 use Rattle.sheet.proofs.encoder.encode.Goals as goal
 
@@ -25,7 +25,7 @@ returns-then-out-total c =
     let l = length-encoded es (map (λ x. x.now) xs) in
     let total = 32 + 16 * length es + 12 * length xs + c.joint_length-bytes.result in
     record {
-      answer = encodes-short es (map (λ x. x.now) xs) (length c.args.out.now) total tt c.in_ok-check_fields.ensures (omega (arith, c.joint_length-bytes.ensures.is)) (omega arith);
+      answer = encodes_short es (map (λ x. x.now) xs) (length c.args.out.now) total tt c.in_ok-check_fields.ensures (omega (arith, c.joint_length-bytes.ensures.is)) (omega arith);
       buffer = refl;
     }
 
@@ -61,6 +61,6 @@ returns c =
     (omega arith) (omega (arith, r.0.names, r.1)) c.put_elements-first.ensures.first (sym r.1) c.joint_length-bytes.ensures.is
     c.put_header.ensures c.put_elements-first.ensures.puts c.put_names.ensures c.put_texts.ensures (omega arith) (omega arith) in
     record {
-      answer = encodes-whole es ts (length c.args.out.now) total tt c.in_ok-check_fields.ensures w.0 (omega arith);
+      answer = encodes_whole es ts (length c.args.out.now) total tt c.in_ok-check_fields.ensures w.0 (omega arith);
       buffer = w.1;
     }

@@ -1,13 +1,13 @@
 use Rattle.std.proofs.Common.{◌≡◌, ◌+◌, ◌-◌, ◌<◌, length, get_or, refl, arith}
 use Rattle.std.proofs.lemmas.List.{length-set}
 use Rattle.layout.specs.Encoding.{blank}
-use Rattle.sheet.proofs.Parts.{table_none, seek-none, seek_set, table_more}
+use Rattle.sheet.proofs.Parts.{table_none, seek_none, seek_set, table_more}
 use Rattle.sheet.proofs.encoder.put_elements.Goals as goal
 
 pub loop-k-init : goal.loop-k-init
 loop-k-init c =
     let es = c.args.elements.now in
-    (refl, table_none es (length es) (omega arith) c.args.out.now, seek-none es (length es) (omega arith))
+    (refl, table_none es (length es) (omega arith) c.args.out.now, seek_none es (length es) (omega arith))
 
 pub loop-k-preserved : goal.loop-k-preserved
 loop-k-preserved c =

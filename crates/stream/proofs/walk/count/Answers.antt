@@ -1,13 +1,13 @@
 use Rattle.std.proofs.Common.{◌≡◌, [], length, sym, ap, ◌∙◌, arith}
 use Rattle.stream.specs.Lists.{update, rest}
-use Rattle.stream.proofs.Parts.{few-part}
-use Rattle.stream.proofs.Positions.{update-update, update_here, update_fixed, nil-from-first, cons-from-first}
+use Rattle.stream.proofs.Parts.{few_part}
+use Rattle.stream.proofs.Positions.{update-update, update_here, update_fixed, nil_from_first, cons_from_first}
 use Rattle.stream.proofs.walk.count.Goals as goal
 
 pub overflow_add-n : goal.overflow_add-n
 overflow_add-n g c =
     let laws = g.S.StreamSet.laws in
-    let few = few-part (laws.lawful c.args.set.now) (laws.part c.args.set.now c.args.i) in
+    let few = few_part (laws.lawful c.args.set.now) (laws.part c.args.set.now c.args.i) in
     omega arith
 
 pub loop-set-preserved : goal.loop-set-preserved
@@ -16,7 +16,7 @@ loop-set-preserved g c =
     let i = c.args.i in
     let before = m.lists c.loop-set.set in
     let after : m.lists c.advance.new.self ≡ update i rest before = c.advance.ensures.less ∙ ap (update i rest) c.tell.ensures.same in
-    let one = ap length (cons-from-first (before i) _ (sym c.tell.ensures.told ∙ c.in-Some.is)) in
+    let one = ap length (cons_from_first (before i) _ (sym c.tell.ensures.told ∙ c.in-Some.is)) in
     let here = ap (λ lists. length (lists i)) after ∙ ap length (update_here i rest before) in
     (omega arith, ap (update i (λ _. [])) after ∙ update-update i (λ _. []) rest before ∙ c.loop-set.invariant.1, cc)
 
@@ -24,7 +24,7 @@ pub returns : goal.returns
 returns g c =
     let m = g.S.StreamSet in
     let left = m.lists c.loop-set.set in
-    let none : left c.args.i ≡ [] = nil-from-first _ (sym c.tell.ensures.told ∙ c.in_default.is) in
+    let none : left c.args.i ≡ [] = nil_from_first _ (sym c.tell.ensures.told ∙ c.in_default.is) in
     let over = ap length none in
     record {
       count = omega arith;

@@ -2,7 +2,7 @@ use Rattle.std.proofs.Common.{◌≡◌, Bool, true, false, vec_items, sym, refl
 use Rattle.std.specs.Str.{bytes_eq}
 use Rattle.std.proofs.lemmas.Slice.Eq.{bytes_eq-Decides}
 use Rattle.std.proofs.lemmas.Bool.Decides.{same_from_decides}
-use Rattle.book.proofs.Steps.{elements-count, among, close_unlike, close_like}
+use Rattle.book.proofs.Steps.{elements_count, among, close_unlike, close_like}
 use Rattle.book.proofs.reader.Reader.close.Goals as goal
 use Rattle.book.proofs.reader.Reader.close.Goals.{After-same_name}
 
@@ -21,7 +21,7 @@ returns-then-not-same_name c =
 pub index_mut-requires : goal.index_mut-requires
 index_mut-requires c =
     let self = c.args.self.now in
-    omega (arith, elements-count self, among self (vec_items c.pop.new.self) c.in-Some.open c.in-Some.ensures.items c.args.place c.args.name.now c.requires.consistent)
+    omega (arith, elements_count self, among self (vec_items c.pop.new.self) c.in-Some.open c.in-Some.ensures.items c.args.place c.args.name.now c.requires.consistent)
 
 pub returns : goal.returns
 returns c =

@@ -6,7 +6,7 @@ use Rattle.book.specs.Reading.{enter, entered, opened}
 use Rattle.book.specs.Parts.{bytes_of}
 use Rattle.book.specs.Views.{state_of, Fails}
 use Rattle.book.specs.declared.reader.Open.{Open}
-use Rattle.book.proofs.Steps.{fails_then, elements-count, entered_is, opened_is}
+use Rattle.book.proofs.Steps.{fails_then, elements_count, entered_is, opened_is}
 use Rattle.book.proofs.reader.Reader.start.Goals as goal
 use Rattle.book.proofs.reader.Reader.start.Goals.{After-admit}
 
@@ -32,4 +32,4 @@ returns c =
     let os = pushed {was = vec_items self.opens} (o ∷ []) refl c.in_ok-push-2.was c.push-2.ensures.items in
     ap (λ r. and_then r (λ e. Ok (opened (state_of self) name e))) admitted
     ∙ ap Ok (opened_is self name e o _ (vec_items c.admit.new.names.list) _ es c.in_ok-element.ensures.names os
-    (ap (λ n. record { number = n; element = e; name = name }) (c.len-number.ensures ∙ elements-count self)))
+    (ap (λ n. record { number = n; element = e; name = name }) (c.len-number.ensures ∙ elements_count self)))

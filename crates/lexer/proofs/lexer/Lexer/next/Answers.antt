@@ -6,7 +6,7 @@ use Rattle.lexer.specs.declared.token.Part.{Part}
 use Rattle.lexer.specs.declared.token.Token.{Token}
 use Rattle.lexer.specs.Lex.{item_at}
 use Rattle.lexer.specs.Token.{whole_of, Finds}
-use Rattle.lexer.proofs.Steps.{next_item, next_moved, next-within, next_parts, next-refused, next-ended}
+use Rattle.lexer.proofs.Steps.{next_item, next_moved, next_within, next_parts, next_refused, next_ended}
 use Rattle.lexer.proofs.lexer.Lexer.next.Goals as goal
 use Rattle.lexer.proofs.lexer.Lexer.next.Goals.{After-item_at}
 
@@ -24,7 +24,7 @@ before-end c = omega (arith, c.args.self.now.inside)
 pub returns-then-place-self : goal.returns-then-place-self
 returns-then-place-self c =
     let lexer = c.args.self.now in
-    record { text = refl; item = next-ended lexer.text.now lexer.at c.if-place-self.true; moved = refl; parts = tt }
+    record { text = refl; item = next_ended lexer.text.now lexer.at c.if-place-self.true; moved = refl; parts = tt }
 
 pub returns-in_err-token : goal.returns-in_err-token
 returns-in_err-token c =
@@ -33,7 +33,7 @@ returns-in_err-token c =
     let lexer = c.args.self.now in
     record {
       text = refl;
-      item = rw (p.1, p.2) (next-refused lexer.text.now lexer.at _ (before-end k) (told k (Err _) c.in_err-token.was));
+      item = rw (p.1, p.2) (next_refused lexer.text.now lexer.at _ (before-end k) (told k (Err _) c.in_err-token.was));
       moved = rw p.1 refl;
       parts = rw p.1 tt;
     }
@@ -44,7 +44,7 @@ invariant_of-self c =
     let lexer = c.args.self.now in
     let t = c.in_ok-token.token in
     let size : length c.whole.result.bytes.now ≡ length (whole_of t).bytes.now = ap (λ (part : Part). length part.bytes.now) c.whole.ensures in
-    record { inside = omega (arith, next-within lexer.text.now lexer.at t (before-end k) (told k (Ok t) c.in_ok-token.was)) }
+    record { inside = omega (arith, next_within lexer.text.now lexer.at t (before-end k) (told k (Ok t) c.in_ok-token.was)) }
 
 pub returns : goal.returns
 returns c =

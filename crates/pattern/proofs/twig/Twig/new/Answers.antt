@@ -2,7 +2,7 @@ use Rattle.std.proofs.Common.{◌≡◌, [], ◌∷◌, codes, sym, refl, ap, su
 use Rattle.pattern.specs.declared.node.Mark.TheVariants.{Any}
 use Rattle.pattern.specs.Shape.{root_a, shape, LawfulTwig}
 use Rattle.pattern.specs.Reading.{run_in, granted, read_pattern}
-use Rattle.pattern.proofs.Trees.{granted-lawful}
+use Rattle.pattern.proofs.Trees.{granted_lawful}
 use Rattle.pattern.proofs.twig.Twig.new.Goals as goal
 
 pub returns : goal.returns
@@ -17,5 +17,5 @@ invariant_of-result c =
       some = omega arith;
       few = omega arith;
       table = refl;
-      lawful = ∣ subst (λ v. LawfulTwig (v ∷ [])) (sym c.root_a.ensures) (granted-lawful (codes "//a") (shape Any (root_a ∷ [])) e) ∣₁;
+      lawful = ∣ subst (λ v. LawfulTwig (v ∷ [])) (sym c.root_a.ensures) (granted_lawful (codes "//a") (shape Any (root_a ∷ [])) e) ∣₁;
     }

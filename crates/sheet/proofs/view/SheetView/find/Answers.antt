@@ -1,14 +1,14 @@
 use Rattle.std.proofs.Common.{sym, ◌∙◌, arith, below_more}
 use Rattle.std.proofs.lemmas.Slice.Eq.{slice_eq-Decides}
 use Rattle.std.proofs.lemmas.Bool.{both_ways}
-use Rattle.sheet.proofs.Sizes.{lawful_sized, lawful-text}
+use Rattle.sheet.proofs.Sizes.{lawful_sized, lawful_text}
 use Rattle.sheet.proofs.view.SheetView.find.Goals as goal
 use Rattle.std.proofs.lemmas.Bool.Decides.{Decides-eqb}
 
 pub read_text-requires : goal.read_text-requires
 read_text-requires c =
     let h = c.args.self.now.lawful in
-    record { sized = lawful_sized _ h; within = omega arith; fits = lawful-text _ h c.loop-j.j (omega arith) }
+    record { sized = lawful_sized _ h; within = omega arith; fits = lawful_text _ h c.loop-j.j (omega arith) }
 
 pub returns-then-eq : goal.returns-then-eq
 returns-then-eq c =
