@@ -14,7 +14,7 @@ DECLARED = re.compile(r"^\s*(?:(?:pub|abbrev|unfoldable|private|opaque)\s+)*(?:(
 # lemmas named after a function of a function, which a dash joins
 JOINED = re.compile(r"(length|get_or)-.*|drop-(elements|names|joint|drop)|(count|none|named|numbered)-append|map-map|update-update|read-le(16|32)"
                     r"|update-narrowed|narrowed-update|rising-map")
-# names that would fall together, or that read badly when turned by rule
+# names that would fall together or read badly when turned by rule, and one that is the library's
 BY_HAND = {
     "element-in": "element_inside",
     "fields_fit": "fields_fit_lem",
