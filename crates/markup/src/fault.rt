@@ -1,5 +1,6 @@
 // Why an input or a call is refused, and where.
 ghost use Rattle.std.specs.Prelude.{◌≡◌};
+ghost use Rattle.markup.specs.Faults.{fault};
 ghost use Rattle.markup.specs.Number.{number_of};
 ghost use Rattle.markup.specs.declared.fault.Error.TheVariants.{Refused, Memory};
 
@@ -47,6 +48,16 @@ impl Refusal {
         ensures { result ≡ number_of self }
     {
         self as u8
+    }
+
+    // The refusal at its place.
+    pub fn at(self, place: usize) -> Fault
+        ensures { result ≡ fault self place }
+    {
+        Fault {
+            refusal: self,
+            place,
+        }
     }
 }
 

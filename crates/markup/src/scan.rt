@@ -29,10 +29,5 @@ pub fn run<C: Class>(bytes: &[u8]) -> usize
     ensures value { result ≡ prefix_len C.member bytes.now }
     ensures within { result ≤ length bytes.now }
 {
-    for (i, b) in bytes.iter().enumerate() {
-        if !C::has(*b) {
-            return i;
-        }
-    }
-    bytes.len()
+    bytes.iter().take_while(|b| C::has(**b)).count()
 }

@@ -3,5 +3,6 @@
 
 pub mod element;
 pub mod laws;
+pub mod limits;
 
 pub use element::Element;
