@@ -13,7 +13,7 @@ use Rattle.markup.proofs.Leading.{leading_append}
 use Rattle.markup.proofs.Names.{first_is_byte, name_run}
 use Rattle.lexer.specs.Item.{Item}
 use Rattle.lexer.specs.Lex.{name_at, end_tail, start_tail, item_at}
-use Rattle.lexer.proofs.Tags.{name_at_lem, not_slash}
+use Rattle.lexer.proofs.Reading.{name_at_lem, not_slash}
 
 -- Names at the front.
 

@@ -12,7 +12,7 @@ use Rattle.markup.specs.Name.{name_first, name_byte, LawfulName}
 use Rattle.lexer.specs.Item.{Item, Item.start, Item.end, Item.empty, Tag, spelling}
 use Rattle.lexer.specs.Lex.{item_at}
 use Rattle.lexer.specs.BadTag.{TagFront, Opens, Overlong, BadTag, BadTag.ends, BadTag.stray, BadTag.long}
-use Rattle.lexer.proofs.Tags.{tag_at}
+use Rattle.lexer.proofs.Reading.{tag_at}
 use Rattle.lexer.proofs.Behind.{View, View.nothing, View.nofirst, View.overlong, View.cut, View.full, view, ok_not_err, start_nofirst, end_nofirst, start_long, end_long, start_cut, end_cut, start_bad, end_bad, slash_bad}
 
 -- Judgement.
@@ -20,7 +20,7 @@ use Rattle.lexer.proofs.Behind.{View, View.nothing, View.nofirst, View.overlong,
 letter : LawfulName (97 ∷ [])
 letter = record { some = omega arith; short = omega arith; first = refl; each = (refl, tt) }
 
-Judged : List ℕ → ℕ → Type 0
+unfoldable pub Judged : List ℕ → ℕ → Type 0
 Judged bs p = ((f : Fault) × (item_at p bs ≡ Err f) × BadTag bs p f) ⊎ ((i : Item) × Tag i × (rest : List ℕ) × (bs ≡ spelling i ++ rest))
 
 -- what is refused whatever follows fits no tag
@@ -122,7 +122,7 @@ judge_start p cs s (full n c rest e l b) =
     (cases_Bool (eqb c 47)))
     (cases_Bool (eqb c 62)))
 
-judged : (p : ℕ) (bs : List ℕ) → Judged (60 ∷ bs) p
+pub judged : (p : ℕ) (bs : List ℕ) → Judged (60 ∷ bs) p
 judged p [] = judge_start p [] refl (view [])
 judged p (c ∷ cs) =
     ⊎_elim
@@ -226,7 +226,7 @@ bad_same bs p f g (long xs c r w o e) (stray ys d t x u n v i) =
 bad_same bs p f g (long xs c r w o e) (long ys d t x u i) =
     e ∙ ap (λ k. fault BookNameTooLong (p + k)) (one_place bs xs ys (cut_long bs xs c r w o) (cut_long bs ys d t x u)) ∙ sym i
 
-same_item : (i j : Item) → ◌≡◌ {A = Result Item Fault} (Ok i) (Ok j) → i ≡ j
+pub same_item : (i j : Item) → ◌≡◌ {A = Result Item Fault} (Ok i) (Ok j) → i ≡ j
 same_item i j e = cc
 
 -- no tag stands where a front is cut

@@ -1,7 +1,7 @@
-pub mod Fronts
-pub mod Tokens
-pub mod Steps
-pub mod Tags
+mod Reading
 mod Behind
 pub mod Judging
+pub mod Tags
+pub mod Fronts
+mod Steps
 pub mod Meaning

@@ -1,20 +1,18 @@
 -- The lexer's definition means what the subject says: items exactly where the text begins with them, refusals exactly where a tag goes wrong.
-use Rattle.std.proofs.Common.{◌≡◌, ℕ, suc, ◌+◌, Bool, true, false, cond, not, eqb, List, [], ◌∷◌, ◌++◌, length, take, drop, Some, None, Ok, Err, Option, Result, sym, refl, ap, ◌∙◌, subst, ⊎_elim, true≢false, append-nil, arith, take-append-drop, length-take}
+use Rattle.std.proofs.Common.{◌≡◌, ℕ, true, false, not, eqb, List, [], ◌∷◌, ◌++◌, length, take, Some, None, Ok, Err, Option, Result, sym, refl, ap, ◌∙◌, subst, ⊎_elim, true≢false, append-nil, arith}
 use Rattle.std.proofs.Math.Seq.{take-append_seam}
 use Rattle.std.specs.List.{prefix_len, AllByRecursion as Every}
-use Rattle.std.proofs.lemmas.List.Sums.{prefix_len-le-length}
 use Rattle.std.proofs.lemmas.Bool.{cases_Bool, cond-false, eqb-true}
 use Rattle.markup.specs.declared.fault.Fault.{Fault}
 use Rattle.markup.specs.Faults.{and_then}
-use Rattle.markup.proofs.Granted.{Granted}
-use Rattle.markup.proofs.Leading.{leading_stop, leading_all, all_leading}
+use Rattle.markup.proofs.Leading.{leading_stop, leading_all}
 use Rattle.lexer.specs.Bytes.{text_byte}
-use Rattle.lexer.specs.Item.{Item, Item.start, Item.end, Item.empty, Item.text, Tag, spelling}
+use Rattle.lexer.specs.Item.{Item, Item.start, Item.end, Item.empty, Item.text, spelling}
 use Rattle.lexer.specs.Lex.{item_at, lex}
 use Rattle.lexer.specs.BadTag.{BadTag}
 use Rattle.lexer.specs.Exact.{NoText, LawfulItem, Begins, LexingIsExact}
-use Rattle.lexer.proofs.Fronts.{ItemFront, item_front}
-use Rattle.lexer.proofs.Tags.{tag_at, tagged}
+use Rattle.lexer.proofs.Fronts.{ItemFront, item_begins, item_front}
+use Rattle.lexer.proofs.Tags.{tag_at}
 use Rattle.lexer.proofs.Judging.{bad_tag, bad_refused}
 
 -- What an answer tells of the item or the refusal.
@@ -37,38 +35,11 @@ ok_no_err i f e = let z : ◌≡◌ {A = ℕ} 0 1 = cc in omega arith
 ok_same : (i j : Item) → ◌≡◌ {A = Result Item Fault} (Ok i) (Ok j) → i ≡ j
 ok_same i j e = cc
 
--- Tags.
-
-lawful_tag : (i : Item) (rest : List ℕ) → Tag i → LawfulItem i rest
-lawful_tag (start n) rest t = t
-lawful_tag (end n) rest t = t
-lawful_tag (empty n) rest t = t
-lawful_tag (text run) rest t = absurd t
-
 -- Text runs.
 
 -- a byte of text is no `<`
 no_angle : (b : ℕ) → text_byte b ≡ true → eqb b 60 ≡ false
 no_angle b t = ⊎_elim (λ (e : eqb b 60 ≡ true). absurd (true≢false (sym t ∙ ap not e))) (λ (e : eqb b 60 ≡ false). e) (cases_Bool (eqb b 60))
-
--- a run goes on to a `<` or the end
-run_ends : (bs : List ℕ) → NoText (drop (prefix_len text_byte bs) bs)
-run_ends [] = tt
-run_ends (b ∷ bs) = go (eqb b 60) refl (run_ends bs)
-  where
-    go : (x : Bool) → eqb b 60 ≡ x → NoText (drop (prefix_len text_byte bs) bs) → NoText (drop (cond (not x) (1 + prefix_len text_byte bs) 0) (b ∷ bs))
-    go true e h = eqb-true b 60 e
-    go false e h = let z : suc (prefix_len text_byte bs) ≡ 1 + prefix_len text_byte bs = omega arith in subst (λ k. NoText (drop k (b ∷ bs))) z h
-
-text_front : (b : ℕ) (bs : List ℕ) → eqb b 60 ≡ false → Begins (b ∷ bs) (text (take (prefix_len text_byte (b ∷ bs)) (b ∷ bs)))
-text_front b bs e =
-    let n : ℕ = prefix_len text_byte (b ∷ bs) in
-    let some : n ≡ 1 + prefix_len text_byte bs = ap (λ x. cond (not x) (1 + prefix_len text_byte bs) 0) e in
-    let le = prefix_len-le-length text_byte (b ∷ bs) in (
-      drop n (b ∷ bs),
-      (omega (arith, length-take n (b ∷ bs)), all_leading text_byte (b ∷ bs), run_ends (b ∷ bs)),
-      sym (take-append-drop n (b ∷ bs)),
-    )
 
 -- the whole run is read
 run_length : (run rest : List ℕ) → Every (λ b. text_byte b ≡ true) run → NoText rest → prefix_len text_byte (run ++ rest) ≡ length run
@@ -85,15 +56,7 @@ text_at p (b ∷ run) rest l =
 
 begins : (p : ℕ) (bs : List ℕ) (i : Item) → lex p bs ≡ Ok (Some i) → Begins bs i
 begins p [] i e = let z : ◌≡◌ {A = ℕ} 0 1 = cc in absurd (omega arith)
-begins p (b ∷ bs) i e =
-    let is : item_at p (b ∷ bs) ≡ Ok i = item_of (item_at p (b ∷ bs)) i e in
-    ⊎_elim
-    (λ (x : eqb b 60 ≡ true).
-    let tag : Tag i = (subst (Granted Tag) (ap (λ c. item_at p (c ∷ bs)) (sym (eqb-true b 60 x)) ∙ is) (tagged p bs)).granted in
-    let f = item_front p b bs i is in
-    (f.rest, lawful_tag i f.rest tag, f.spelled))
-    (λ (x : eqb b 60 ≡ false). subst (Begins (b ∷ bs)) (ok_same _ i (sym (cond-false _ _ _ x) ∙ is)) (text_front b bs x))
-    (cases_Bool (eqb b 60))
+begins p (b ∷ bs) i e = item_begins p b bs i (item_of (item_at p (b ∷ bs)) i e)
 
 tag_lexed : (p : ℕ) (i : Item) (rest : List ℕ) → LawfulItem i rest → lex p (spelling i ++ rest) ≡ Ok (Some i)
 tag_lexed p (start n) rest l = ap (λ r. and_then r (λ i. Ok (Some i))) (tag_at p (start n) rest l)

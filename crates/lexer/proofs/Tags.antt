@@ -1,75 +1,28 @@
--- A tag is read as it is written, and nothing else is read as a tag.
-use Rattle.std.proofs.Common.{◌≡◌, ℕ, ◌+◌, ◌≤◌, false, eqb, leb, List, [], ◌∷◌, ◌++◌, length, get_or, take, drop, Ok, sym, refl, ap, ◌∙◌, true≢false, append_assoc, arith, get_or-append-add}
-use Rattle.std.proofs.Math.ListN.{get_or-append}
-use Rattle.std.proofs.Math.Seq.{take-append_seam, get_or-append_seam}
-use Rattle.std.specs.List.{prefix_len}
-use Rattle.std.proofs.lemmas.Bool.{cond-true, cond-false, eq-eqb, ne_eqb, le-leb, leb-true}
-use Rattle.markup.specs.Faults.{and_then}
-use Rattle.markup.specs.Name.{name_first, name_byte, LawfulName}
-use Rattle.markup.proofs.Granted.{Granted, grant, refuse, either, chain}
-use Rattle.markup.proofs.Leading.{leading_stop}
-use Rattle.markup.proofs.Names.{name_of}
-use Rattle.lexer.specs.Item.{Item, Item.start, Item.end, Item.empty, Item.text, Tag, spelling}
-use Rattle.lexer.specs.Lex.{name_at, end_tail, end_tag, start_tail, start_tag, item_at}
+-- What is read as a tag is one.
+use Rattle.std.proofs.Common.{◌≡◌, ℕ, List, ◌∷◌, ◌++◌, Ok, Err, Result, sym, refl, ap, ◌∙◌, subst, ⊎_elim}
+use Rattle.markup.specs.declared.fault.Fault.{Fault}
+use Rattle.markup.proofs.Granted.{Granted, grant, refuse}
+use Rattle.lexer.specs.Item.{Item, Tag, spelling}
+use Rattle.lexer.specs.Lex.{item_at}
+use Rattle.lexer.proofs.Behind.{ok_not_err}
+use Rattle.lexer.proofs.Judging.{Judged, same_item, judged}
+pub use Rattle.lexer.proofs.Reading.{tag_at}
 
-module _ (n : List ℕ) (l : LawfulName n) (c : ℕ) (rest : List ℕ) where
-  first_same : get_or (n ++ c ∷ rest) 0 0 ≡ get_or n 0 0
-  first_same = get_or-append n (c ∷ rest) 0 0 l.some
+-- a tag at the front of the text, and what follows it
+abbrev pub TagFirst : List ℕ → Item → Type 0
+TagFirst bs i = Tag i × (rest : List ℕ) × (bs ≡ spelling i ++ rest)
 
-  pub name_at_lem : (p : ℕ) → name_byte c ≡ false → name_at p (n ++ c ∷ rest) ≡ Ok (length n)
-  name_at_lem p e =
-      let k = leading_stop name_byte n c rest l.each e in
-      let few : prefix_len name_byte (n ++ c ∷ rest) ≤ 32 = omega (arith, l.short) in
-      cond-true _ _ _ (ap name_first first_same ∙ l.first)
-      ∙ cond-true _ _ _ (le-leb _ _ few)
-      ∙ ap Ok k
+pub tag_of : (p : ℕ) (bs : List ℕ) (i : Item) → item_at p (60 ∷ bs) ≡ Ok i → TagFirst (60 ∷ bs) i
+unfolding Judged
+tag_of p bs i e =
+    ⊎_elim (λ j. absurd (ok_not_err i j.0 (sym e ∙ j.1)))
+    (λ t. subst (TagFirst (60 ∷ bs)) (same_item t.0 i (sym (tag_at p t.0 t.2 t.1) ∙ ap (item_at p) (sym t.3) ∙ e)) (t.1, t.2, t.3))
+    (judged p bs)
 
-  pub not_slash : eqb (get_or (n ++ c ∷ rest) 0 0) 47 ≡ false
-  not_slash = ne_eqb _ _ (λ e. absurd (true≢false (sym l.first ∙ ap name_first (sym first_same ∙ e))))
-
-start_at : (p : ℕ) (n : List ℕ) (rest : List ℕ) → LawfulName n → start_tag p (n ++ 62 ∷ rest) ≡ Ok (start n)
-start_at p n rest l =
-    ap (λ r. and_then r (start_tail p (n ++ 62 ∷ rest))) (name_at_lem n l 62 rest (p + 1) refl)
-    ∙ cond-true _ _ _ (eq-eqb _ _ (get_or-append_seam n 62 rest 0))
-    ∙ ap (λ x. Ok (start x)) (take-append_seam n (62 ∷ rest))
-
-empty_at : (p : ℕ) (n : List ℕ) (rest : List ℕ) → LawfulName n → start_tag p (n ++ 47 ∷ 62 ∷ rest) ≡ Ok (empty n)
-empty_at p n rest l =
-    let bs = n ++ 47 ∷ 62 ∷ rest in
-    let at : get_or bs (length n) 0 ≡ 47 = get_or-append_seam n 47 (62 ∷ rest) 0 in
-    ap (λ r. and_then r (start_tail p bs)) (name_at_lem n l 47 (62 ∷ rest) (p + 1) refl)
-    ∙ cond-false _ _ _ (ap (λ x. eqb x 62) at)
-    ∙ cond-true _ _ _ (eq-eqb _ _ at)
-    ∙ cond-true _ _ _ (eq-eqb _ _ (get_or-append-add n (47 ∷ 62 ∷ rest) 1 0))
-    ∙ ap (λ x. Ok (empty x)) (take-append_seam n (47 ∷ 62 ∷ rest))
-
-end_at : (p : ℕ) (n : List ℕ) (rest : List ℕ) → LawfulName n → end_tag p (n ++ 62 ∷ rest) ≡ Ok (end n)
-end_at p n rest l =
-    let bs = n ++ 62 ∷ rest in
-    ap (λ r. and_then r (end_tail p bs)) (name_at_lem n l 62 rest (p + 2) refl)
-    ∙ cond-true _ _ _ (eq-eqb _ _ (get_or-append_seam n 62 rest 0))
-    ∙ ap (λ x. Ok (end x)) (take-append_seam n (62 ∷ rest))
-
--- a tag is read as it is written
-pub tag_at : (p : ℕ) (i : Item) (rest : List ℕ) → Tag i → item_at p (spelling i ++ rest) ≡ Ok i
-tag_at p (start n) rest l = ap (λ bs. item_at p (60 ∷ bs)) (append_assoc n (62 ∷ []) rest) ∙ cond-false _ _ _ (not_slash n l 62 rest) ∙ start_at p n rest l
-tag_at p (empty n) rest l =
-    ap (λ bs. item_at p (60 ∷ bs)) (append_assoc n (47 ∷ 62 ∷ []) rest) ∙ cond-false _ _ _ (not_slash n l 47 (62 ∷ rest)) ∙ empty_at p n rest l
-tag_at p (end n) rest l = ap (λ bs. item_at p (60 ∷ 47 ∷ bs)) (append_assoc n (62 ∷ []) rest) ∙ end_at p n rest l
-tag_at p (text bs) rest l = absurd l
-
--- and what is read as a tag is one
-name_lawful : (p : ℕ) (bs : List ℕ) → Granted (λ n. LawfulName (take n bs)) (name_at p bs)
-name_lawful p bs =
-    either (name_first (get_or bs 0 0)) _ _
-    (λ f. either (leb (prefix_len name_byte bs) 32) _ _ (λ h. grant _ (name_of bs f (leb-true _ _ h))) (λ _. refuse _))
-    (λ _. refuse _)
+-- what holds of each item that is granted
+pub granted_each : {P : Item → Type 0} (r : Result Item Fault) → ((i : Item) → r ≡ Ok i → P i) → Granted P r
+granted_each (Ok i) h = grant i (h i refl)
+granted_each (Err f) h = refuse f
 
 pub tagged : (p : ℕ) (bs : List ℕ) → Granted Tag (item_at p (60 ∷ bs))
-tagged p bs =
-    either (eqb (get_or bs 0 0) 47) _ _
-    (λ _. chain _ (name_at (p + 2) (drop 1 bs)) (end_tail p (drop 1 bs)) (name_lawful (p + 2) (drop 1 bs))
-    (λ n h. either (eqb (get_or (drop 1 bs) n 0) 62) _ _ (λ _. grant _ h) (λ _. refuse _)))
-    (λ _. chain _ (name_at (p + 1) bs) (start_tail p bs) (name_lawful (p + 1) bs)
-    (λ n h. either (eqb (get_or bs n 0) 62) _ _ (λ _. grant _ h)
-    (λ _. either (eqb (get_or bs n 0) 47) _ _ (λ _. either (eqb (get_or bs (n + 1) 0) 62) _ _ (λ _. grant _ h) (λ _. refuse _)) (λ _. refuse _))))
+tagged p bs = granted_each _ (λ i e. (tag_of p bs i e).0)
