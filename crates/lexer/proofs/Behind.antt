@@ -1,49 +1,20 @@
 -- What may follow `<` or `</`, by how a name at its front goes on, and what the definition says of each.
-use Rattle.std.proofs.Common.{◌≡◌, ℕ, zero, suc, ◌+◌, ◌<◌, ◌≤◌, true, false, cond, eqb, ◌⊎◌, List, [], ◌∷◌, ◌++◌, length, get_or, Ok, Err, Result, sym, refl, ap, ◌∙◌, subst, inl, inr, ⊎_elim, true≢false, append-nil, arith, get_or-append-add}
+use Rattle.std.proofs.Common.{◌≡◌, ℕ, suc, ◌+◌, ◌<◌, ◌≤◌, true, false, cond, eqb, List, [], ◌∷◌, ◌++◌, length, get_or, take, drop, Ok, Err, Result, sym, refl, ap, ◌∙◌, subst, ⊎_elim, true≢false, length-take, arith, get_or-append-add}
 use Rattle.std.proofs.Math.ListN.{get_or-append}
-use Rattle.std.proofs.Math.Seq.{get_or-append_seam}
-use Rattle.std.specs.List.{prefix_len, AllByRecursion as Every}
-use Rattle.std.proofs.lemmas.List.{get_or_past}
-use Rattle.std.proofs.lemmas.Bool.{cases_Bool, cond-true, cond-false, eq-eqb, ne_eqb, le-leb, lt-leb}
+use Rattle.std.proofs.Math.Seq.{get_or-append_seam, split_at}
+use Rattle.std.specs.List.{prefix_len}
+use Rattle.std.proofs.lemmas.List.{get_or_past, take_all}
+use Rattle.std.proofs.lemmas.List.Sums.{prefix_len-le-length, prefix_len_passes, prefix_len_stops}
+use Rattle.std.proofs.lemmas.Bool.{cases_Bool, cases_lt, cond-true, cond-false, eq-eqb, ne_eqb, le-leb, lt-leb}
 use Rattle.markup.specs.declared.fault.Fault.{Fault}
 use Rattle.markup.specs.declared.fault.Refusal.TheVariants.{Stray, BookNameTooLong}
 use Rattle.markup.specs.Faults.{fault, and_then}
 use Rattle.markup.specs.Name.{name_first, name_byte, LawfulName}
 use Rattle.markup.proofs.Leading.{leading_append}
-use Rattle.markup.proofs.Names.{first_is_byte, name_run}
+use Rattle.markup.proofs.Names.{first_is_byte, name_of, name_run}
 use Rattle.lexer.specs.Item.{Item}
 use Rattle.lexer.specs.Lex.{name_at, end_tail, start_tail, item_at}
 use Rattle.lexer.proofs.Reading.{name_at_lem, not_slash}
-
--- Names at the front.
-
-Stop : List ℕ → Type 0
-Stop [] = Unit {0}
-Stop (c ∷ rest) = name_byte c ≡ false
-
-record Bytes (m : ℕ) (cs : List ℕ) : Type 0 where
-  name : List ℕ
-  rest : List ℕ
-  is : cs ≡ name ++ rest
-  each : Every (λ b. name_byte b ≡ true) name
-  stops : (length name ≡ m) ⊎ ((length name < m) × Stop rest)
-
-bytes : (m : ℕ) (cs : List ℕ) → Bytes m cs
-unfolding Stop
-bytes zero cs = record { name = []; rest = cs; is = refl; each = tt; stops = inl refl }
-bytes (suc m) [] = record { name = []; rest = []; is = refl; each = tt; stops = inr (omega arith, tt) }
-bytes (suc m) (c ∷ cs) =
-    let r = bytes m cs in
-    ⊎_elim
-    (λ (e : name_byte c ≡ true). record {
-      name = c ∷ r.name;
-      rest = r.rest;
-      is = ap (λ l. c ∷ l) r.is;
-      each = (e, r.each);
-      stops = ⊎_elim (λ h. inl (ap suc h)) (λ h. inr (omega arith, h.1)) r.stops;
-    })
-    (λ (e : name_byte c ≡ false). record { name = []; rest = c ∷ cs; is = refl; each = tt; stops = inr (omega arith, e) })
-    (cases_Bool (name_byte c))
 
 -- what follows `<` or `</`
 pub data View (cs : List ℕ) : Type 0 where
@@ -53,23 +24,27 @@ pub data View (cs : List ℕ) : Type 0 where
   cut : LawfulName cs → View cs
   full : (n : List ℕ) (c : ℕ) (rest : List ℕ) → cs ≡ n ++ c ∷ rest → LawfulName n → name_byte c ≡ false → View cs
 
-view_rest : (cs n : List ℕ) (rest : List ℕ) → cs ≡ n ++ rest → LawfulName n → (length n ≡ 32) ⊎ Stop rest → View cs
-unfolding Stop
-view_rest cs n [] e l h = cut (subst LawfulName (sym (e ∙ append-nil n)) l)
-view_rest cs n (c ∷ rest) e l (inl h) =
-    ⊎_elim (λ (b : name_byte c ≡ true). overlong n c rest e l h b) (λ (b : name_byte c ≡ false). full n c rest e l b) (cases_Bool (name_byte c))
-view_rest cs n (c ∷ rest) e l (inr h) = full n c rest e l h
+named : (bs : List ℕ) → name_first (get_or bs 0 0) ≡ true → 1 ≤ prefix_len name_byte bs → View bs
+named bs f some =
+    let k : ℕ = prefix_len name_byte bs in
+    let le : k ≤ length bs = prefix_len-le-length name_byte bs in
+    ⊎_elim
+    (λ (h : 32 < k).
+    overlong (take 32 bs) (get_or bs 32 0) (drop 33 bs) (split_at bs 32 0 (omega arith)) (name_of bs 32 f (omega arith) (omega arith) (omega arith))
+    (omega (arith, length-take 32 bs)) (prefix_len_passes name_byte bs 32 0 h))
+    (λ (h : k ≤ 32).
+    let name = name_of bs k f (omega arith) some h in
+    ⊎_elim
+    (λ (l : k < length bs). full (take k bs) (get_or bs k 0) (drop (suc k) bs) (split_at bs k 0 l) name (prefix_len_stops name_byte bs 0 l))
+    (λ (l : length bs ≤ k). cut (subst LawfulName (take_all k bs l) name))
+    (cases_lt k (length bs)))
+    (cases_lt 32 k)
 
 pub view : (cs : List ℕ) → View cs
 view [] = nothing refl
 view (c ∷ cs) =
     ⊎_elim
-    (λ (f : name_first c ≡ true).
-    let r = bytes 31 cs in
-    let short : length r.name ≤ 31 = ⊎_elim (λ (h : length r.name ≡ 31). omega arith) (λ h. omega (arith, h.0)) r.stops in
-    view_rest (c ∷ cs) (c ∷ r.name) r.rest (ap (λ l. c ∷ l) r.is)
-    (record { some = omega arith; short = omega arith; first = f; each = (first_is_byte c f, r.each) })
-    (⊎_elim (λ (h : length r.name ≡ 31). inl (ap suc h)) (λ h. inr h.1) r.stops))
+    (λ (f : name_first c ≡ true). named (c ∷ cs) f (let b = first_is_byte c f in rw (b, cond) (omega arith)))
     (λ (f : name_first c ≡ false). nofirst c cs refl f)
     (cases_Bool (name_first c))
 
@@ -95,7 +70,7 @@ first_no_slash : (c : ℕ) (n : List ℕ) → LawfulName (c ∷ n) → eqb c 47 
 first_no_slash c n l = ne_eqb _ _ (λ e. true≢false (sym l.first ∙ ap name_first e))
 
 pub ok_not_err : (s : Item) (f : Fault) → ◌≡◌ {A = Result Item Fault} (Ok s) (Err f) → ⊥
-ok_not_err s f e = let z : ◌≡◌ {A = ℕ} 0 1 = cc in omega arith
+ok_not_err s f e = cc
 
 module _ (p : ℕ) where
   pub start_nofirst : (c : ℕ) (rest : List ℕ) → eqb c 47 ≡ false → name_first c ≡ false → item_at p (60 ∷ c ∷ rest) ≡ Err (fault Stray (p + 1))

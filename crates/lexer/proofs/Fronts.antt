@@ -3,14 +3,14 @@ use Rattle.std.proofs.Common.{◌≡◌, ℕ, suc, ◌+◌, ◌<◌, Bool, true,
 use Rattle.std.specs.List.{prefix_len}
 use Rattle.std.proofs.lemmas.List.Sums.{prefix_len-le-length}
 use Rattle.std.proofs.lemmas.Bool.{cases_Bool, cond-false, eqb-true}
-use Rattle.markup.proofs.Granted.{Granted}
+use Rattle.markup.proofs.Granted.{Granted, granted_each}
 use Rattle.markup.proofs.Leading.{all_leading}
 use Rattle.lexer.specs.Bytes.{text_byte}
 use Rattle.lexer.specs.Item.{Item, Item.start, Item.end, Item.empty, Item.text, Tag, spelling}
 use Rattle.lexer.specs.Lex.{item_at}
 use Rattle.lexer.specs.Exact.{NoText, LawfulItem, Begins}
 use Rattle.lexer.proofs.Judging.{same_item}
-use Rattle.lexer.proofs.Tags.{tag_of, granted_each}
+use Rattle.lexer.proofs.Tags.{tag_of}
 
 -- a run goes on to a `<` or the end
 run_ends : (bs : List ℕ) → NoText (drop (prefix_len text_byte bs) bs)

@@ -1,9 +1,9 @@
 -- What begins with `<` is a tag, or its bytes go wrong at one place.
-use Rattle.std.proofs.Common.{◌≡◌, ℕ, ◌+◌, ◌<◌, ◌≤◌, true, false, eqb, ◌⊎◌, List, [], ◌∷◌, ◌++◌, length, get_or, drop, Ok, Err, Result, sym, refl, ap, ◌∙◌, subst, inl, inr, ⊎_elim, true≢false, append_assoc, append-nil, arith, length-append}
+use Rattle.std.proofs.Common.{◌≡◌, ℕ, ◌+◌, ◌<◌, ◌≤◌, true, false, eqb, ◌⊎◌, List, [], ◌∷◌, ◌++◌, length, get_or, take, drop, Ok, Err, Result, sym, refl, ap, ◌∙◌, subst, inl, inr, ⊎_elim, true≢false, append_assoc, append-nil, take-append-drop, arith, length-append}
 use Rattle.std.proofs.Math.ListN.{get_or-append}
-use Rattle.std.proofs.Math.Seq.{get_or-append_seam}
+use Rattle.std.proofs.Math.Seq.{get_or-append_seam, take-append_seam}
 use Rattle.std.proofs.ByRecursion.{All-get_or}
-use Rattle.std.proofs.lemmas.List.{nil_from_length}
+use Rattle.std.proofs.lemmas.List.{nil_from_length, take-append-le}
 use Rattle.std.proofs.lemmas.Bool.{cases_Bool, cases_lt, eqb-true}
 use Rattle.markup.specs.declared.fault.Fault.{Fault}
 use Rattle.markup.specs.declared.fault.Refusal.TheVariants.{Stray, BookNameTooLong}
@@ -143,12 +143,9 @@ bad_tag p bs f e =
 -- The other way round: there is one place only.
 
 front_of : (ys xs u t : List ℕ) → ys ++ u ≡ xs ++ t → length ys ≤ length xs → (zs : List ℕ) × (xs ≡ ys ++ zs)
-front_of [] xs u t e h = (xs, refl)
-front_of (y ∷ ys) [] u t e h = absurd (omega arith)
-front_of (y ∷ ys) (x ∷ xs) u t e h =
-    let r = front_of ys xs u t (ap (drop 1) e) (omega arith) in
-    let same : y ≡ x = ap (λ l. get_or l 0 0) e in
-    (r.0, λ i. sym same i ∷ r.1 i)
+front_of ys xs u t e h =
+    let same : take (length ys) xs ≡ ys = sym (take-append-le (length ys) xs t h) ∙ ap (take (length ys)) (sym e) ∙ take-append_seam ys u in
+    (drop (length ys) xs, sym (take-append-drop (length ys) xs) ∙ ap (λ l. l ++ drop (length ys) xs) same)
 
 record CutAt (bs xs : List ℕ) : Type 0 where
   opens : Opens xs

@@ -1,8 +1,8 @@
 -- The lexer's definition means what the subject says: items exactly where the text begins with them, refusals exactly where a tag goes wrong.
-use Rattle.std.proofs.Common.{◌≡◌, ℕ, true, false, not, eqb, List, [], ◌∷◌, ◌++◌, length, take, Some, None, Ok, Err, Option, Result, sym, refl, ap, ◌∙◌, subst, ⊎_elim, true≢false, append-nil, arith}
+use Rattle.std.proofs.Common.{◌≡◌, ℕ, true, false, eqb, List, [], ◌∷◌, ◌++◌, length, take, Some, None, Ok, Err, Option, Result, sym, refl, ap, ◌∙◌, subst, ⊎_elim, append-nil, arith}
 use Rattle.std.proofs.Math.Seq.{take-append_seam}
 use Rattle.std.specs.List.{prefix_len, AllByRecursion as Every}
-use Rattle.std.proofs.lemmas.Bool.{cases_Bool, cond-false, eqb-true}
+use Rattle.std.proofs.lemmas.Bool.{cases_Bool, not-true, cond-false, eqb-true}
 use Rattle.markup.specs.declared.fault.Fault.{Fault}
 use Rattle.markup.specs.Faults.{and_then}
 use Rattle.markup.proofs.Leading.{leading_stop, leading_all}
@@ -11,6 +11,7 @@ use Rattle.lexer.specs.Item.{Item, Item.start, Item.end, Item.empty, Item.text, 
 use Rattle.lexer.specs.Lex.{item_at, lex}
 use Rattle.lexer.specs.BadTag.{BadTag}
 use Rattle.lexer.specs.Exact.{NoText, LawfulItem, Begins, LexingIsExact}
+use Rattle.lexer.proofs.Behind.{ok_not_err}
 use Rattle.lexer.proofs.Fronts.{ItemFront, item_begins, item_front}
 use Rattle.lexer.proofs.Tags.{tag_at}
 use Rattle.lexer.proofs.Judging.{bad_tag, bad_refused}
@@ -18,28 +19,18 @@ use Rattle.lexer.proofs.Judging.{bad_tag, bad_refused}
 -- What an answer tells of the item or the refusal.
 
 pub item_of : (r : Result Item Fault) (i : Item) → and_then r (λ x. Ok (Some x)) ≡ Ok (Some i) → r ≡ Ok i
-item_of (Ok j) i e = let same : j ≡ i = cc in ap Ok same
-item_of (Err f) i e = let z : ◌≡◌ {A = ℕ} 0 1 = cc in absurd (omega arith)
+item_of (Ok j) i e = cc
+item_of (Err f) i e = cc
 
 pub fault_of : (r : Result Item Fault) (f : Fault) → and_then {Y = Option Item} r (λ x. Ok (Some x)) ≡ Err f → r ≡ Err f
-fault_of (Ok j) f e = let z : ◌≡◌ {A = ℕ} 0 1 = cc in absurd (omega arith)
-fault_of (Err g) f e = let same : g ≡ f = cc in ap Err same
+fault_of (Ok j) f e = cc
+fault_of (Err g) f e = cc
 
 never_ended : (r : Result Item Fault) → and_then {Y = Option Item} r (λ x. Ok (Some x)) ≡ Ok None → ⊥
-never_ended (Ok j) e = let z : ◌≡◌ {A = ℕ} 0 1 = cc in omega arith
-never_ended (Err f) e = let z : ◌≡◌ {A = ℕ} 0 1 = cc in omega arith
-
-ok_no_err : (i : Item) (f : Fault) → ◌≡◌ {A = Result Item Fault} (Ok i) (Err f) → ⊥
-ok_no_err i f e = let z : ◌≡◌ {A = ℕ} 0 1 = cc in omega arith
-
-ok_same : (i j : Item) → ◌≡◌ {A = Result Item Fault} (Ok i) (Ok j) → i ≡ j
-ok_same i j e = cc
+never_ended (Ok j) e = cc
+never_ended (Err f) e = cc
 
 -- Text runs.
-
--- a byte of text is no `<`
-no_angle : (b : ℕ) → text_byte b ≡ true → eqb b 60 ≡ false
-no_angle b t = ⊎_elim (λ (e : eqb b 60 ≡ true). absurd (true≢false (sym t ∙ ap not e))) (λ (e : eqb b 60 ≡ false). e) (cases_Bool (eqb b 60))
 
 -- the whole run is read
 run_length : (run rest : List ℕ) → Every (λ b. text_byte b ≡ true) run → NoText rest → prefix_len text_byte (run ++ rest) ≡ length run
@@ -50,12 +41,12 @@ text_at : (p : ℕ) (run rest : List ℕ) → LawfulItem (text run) rest → lex
 text_at p [] rest l = absurd (omega (arith, l.0))
 text_at p (b ∷ run) rest l =
     ap (λ r. and_then r (λ i. Ok (Some i)))
-    (cond-false _ _ _ (no_angle b l.1.0) ∙ ap (λ k. Ok (text (take k (b ∷ run ++ rest)))) (run_length (b ∷ run) rest l.1 l.2) ∙ ap (λ r. Ok (text r)) (take-append_seam (b ∷ run) rest))
+    (cond-false _ _ _ (not-true _ l.1.0) ∙ ap (λ k. Ok (text (take k (b ∷ run ++ rest)))) (run_length (b ∷ run) rest l.1 l.2) ∙ ap (λ r. Ok (text r)) (take-append_seam (b ∷ run) rest))
 
 -- Items.
 
 begins : (p : ℕ) (bs : List ℕ) (i : Item) → lex p bs ≡ Ok (Some i) → Begins bs i
-begins p [] i e = let z : ◌≡◌ {A = ℕ} 0 1 = cc in absurd (omega arith)
+begins p [] i e = cc
 begins p (b ∷ bs) i e = item_begins p b bs i (item_of (item_at p (b ∷ bs)) i e)
 
 tag_lexed : (p : ℕ) (i : Item) (rest : List ℕ) → LawfulItem i rest → lex p (spelling i ++ rest) ≡ Ok (Some i)
@@ -67,14 +58,14 @@ tag_lexed p (text run) rest l = text_at p run rest l
 -- Refusals.
 
 goes_wrong : (p : ℕ) (bs : List ℕ) (f : Fault) → lex p bs ≡ Err f → (more : List ℕ) × (bs ≡ 60 ∷ more) × BadTag bs p f
-goes_wrong p [] f e = let z : ◌≡◌ {A = ℕ} 0 1 = cc in absurd (omega arith)
+goes_wrong p [] f e = cc
 goes_wrong p (b ∷ bs) f e =
     let is : item_at p (b ∷ bs) ≡ Err f = fault_of (item_at p (b ∷ bs)) f e in
     ⊎_elim
     (λ (x : eqb b 60 ≡ true).
     let angle : 60 ∷ bs ≡ b ∷ bs = ap (λ c. c ∷ bs) (sym (eqb-true b 60 x)) in
     (bs, sym angle, subst (λ l. BadTag l p f) angle (bad_tag p bs f (ap (item_at p) angle ∙ is))))
-    (λ (x : eqb b 60 ≡ false). absurd (ok_no_err _ f (sym (cond-false _ _ _ x) ∙ is)))
+    (λ (x : eqb b 60 ≡ false). absurd (ok_not_err _ f (sym (cond-false _ _ _ x) ∙ is)))
     (cases_Bool (eqb b 60))
 
 refused : (p : ℕ) (bs more : List ℕ) (f : Fault) → bs ≡ 60 ∷ more → BadTag bs p f → lex p bs ≡ Err f
@@ -93,5 +84,5 @@ lexing_is_exact = record {
 
 -- an item that was lexed is the front of the text
 pub lexed_front : (p : ℕ) (bs : List ℕ) (i : Item) → lex p bs ≡ Ok (Some i) → ItemFront bs i
-lexed_front p [] i e = let z : ◌≡◌ {A = ℕ} 0 1 = cc in absurd (omega arith)
+lexed_front p [] i e = cc
 lexed_front p (b ∷ bs) i e = item_front p b bs i (item_of (item_at p (b ∷ bs)) i e)

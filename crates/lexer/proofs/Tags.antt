@@ -1,7 +1,6 @@
 -- What is read as a tag is one.
-use Rattle.std.proofs.Common.{◌≡◌, ℕ, List, ◌∷◌, ◌++◌, Ok, Err, Result, sym, refl, ap, ◌∙◌, subst, ⊎_elim}
-use Rattle.markup.specs.declared.fault.Fault.{Fault}
-use Rattle.markup.proofs.Granted.{Granted, grant, refuse}
+use Rattle.std.proofs.Common.{◌≡◌, ℕ, List, ◌∷◌, ◌++◌, Ok, sym, ap, ◌∙◌, subst, ⊎_elim}
+use Rattle.markup.proofs.Granted.{Granted, granted_each}
 use Rattle.lexer.specs.Item.{Item, Tag, spelling}
 use Rattle.lexer.specs.Lex.{item_at}
 use Rattle.lexer.proofs.Behind.{ok_not_err}
@@ -18,11 +17,6 @@ tag_of p bs i e =
     ⊎_elim (λ j. absurd (ok_not_err i j.0 (sym e ∙ j.1)))
     (λ t. subst (TagFirst (60 ∷ bs)) (same_item t.0 i (sym (tag_at p t.0 t.2 t.1) ∙ ap (item_at p) (sym t.3) ∙ e)) (t.1, t.2, t.3))
     (judged p bs)
-
--- what holds of each item that is granted
-pub granted_each : {P : Item → Type 0} (r : Result Item Fault) → ((i : Item) → r ≡ Ok i → P i) → Granted P r
-granted_each (Ok i) h = grant i (h i refl)
-granted_each (Err f) h = refuse f
 
 pub tagged : (p : ℕ) (bs : List ℕ) → Granted Tag (item_at p (60 ∷ bs))
 tagged p bs = granted_each _ (λ i e. (tag_of p bs i e).0)

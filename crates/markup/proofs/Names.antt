@@ -1,25 +1,24 @@
 -- Lawful names.
-use Rattle.std.proofs.Common.{◌≡◌, ℕ, suc, ◌+◌, ◌≤◌, true, cond, List, [], ◌∷◌, length, get_or, take, sym, ap, ◌∙◌, subst, true≢false, arith, length-take}
+use Rattle.std.proofs.Common.{◌≡◌, ℕ, ◌≤◌, true, List, [], ◌∷◌, length, get_or, take, sym, ap, ◌∙◌, true≢false, arith, length-take}
 use Rattle.std.specs.List.{prefix_len}
+use Rattle.std.proofs.lemmas.List.{get_or-take}
+use Rattle.std.proofs.lemmas.List.Sums.{prefix_len-le-length}
 use Rattle.std.proofs.lemmas.Bool.{or_left}
 use Rattle.markup.specs.Name.{name_first, name_byte, LawfulName}
-use Rattle.markup.proofs.Leading.{leading_all, all_leading, all_from_leading}
+use Rattle.markup.proofs.Leading.{leading_all, all_front, all_from_leading}
 
 -- what may begin a name may stand in one
 pub first_is_byte : (b : ℕ) → name_first b ≡ true → name_byte b ≡ true
 first_is_byte b f = or_left _ _ (or_left _ _ (or_left _ _ f))
 
--- a run of name bytes that begins as a name does, and is not too long
-pub name_of : (bs : List ℕ) → name_first (get_or bs 0 0) ≡ true → prefix_len name_byte bs ≤ 32 → LawfulName (take (prefix_len name_byte bs) bs)
-name_of [] f h = absurd (true≢false (sym f))
-name_of (b ∷ bs) f h =
-    let z : prefix_len name_byte (b ∷ bs) ≡ suc (prefix_len name_byte bs) = ap (λ x. cond x (1 + prefix_len name_byte bs) 0) (first_is_byte b f) ∙ omega arith in
-    record {
-      some = omega (arith, length-take (prefix_len name_byte (b ∷ bs)) (b ∷ bs));
-      short = omega (arith, length-take (prefix_len name_byte (b ∷ bs)) (b ∷ bs));
-      first = subst (λ k. name_first (get_or (take k (b ∷ bs)) 0 0) ≡ true) (sym z) f;
-      each = all_leading name_byte (b ∷ bs);
-    }
+-- up to 32 bytes at the front of a run of name bytes that begins as a name does
+pub name_of : (bs : List ℕ) (n : ℕ) → name_first (get_or bs 0 0) ≡ true → n ≤ prefix_len name_byte bs → 1 ≤ n → n ≤ 32 → LawfulName (take n bs)
+name_of bs n f h some short = record {
+  some = omega (arith, length-take n bs, prefix_len-le-length name_byte bs);
+  short = omega (arith, length-take n bs);
+  first = ap name_first (get_or-take n bs 0 0 some) ∙ f;
+  each = all_front name_byte n bs h;
+}
 
 -- a lawful name is one run of name bytes
 pub name_run : (name : List ℕ) → LawfulName name → prefix_len name_byte name ≡ length name
