@@ -1,7 +1,7 @@
 -- The first with a name, from some number on.
-use Rattle.std.proofs.Common.{◌≡◌, ℕ, zero, suc, ◌+◌, ◌-◌, ◌<◌, ◌≤◌, true, false, eqb, List, length, get_or, drop, sym, refl, ap, ◌∙◌, subst, ⊎_elim, arith}
+use Rattle.std.proofs.Common.{◌≡◌, ℕ, zero, suc, ◌+◌, ◌-◌, ◌<◌, ◌≤◌, eqb, List, length, get_or, drop, sym, refl, ap, ◌∙◌, subst, ⊎_elim, arith}
 use Rattle.std.proofs.lemmas.List.{drop_all}
-use Rattle.std.proofs.lemmas.Bool.{cases_eq, cases_order, cases_Bool, eqb-true, eqb-false, cond-true, cond-false}
+use Rattle.std.proofs.lemmas.Bool.{cases_eq, eqb-true, eqb-false, cond_both}
 use Rattle.tree.specs.declared.element.Element.{Element}
 use Rattle.layout.specs.Lawful.{FirstFrom}
 use Rattle.layout.specs.Encoding.{blank, seek}
@@ -13,10 +13,7 @@ no_before : (f : ℕ → ℕ) (n x m i j : ℕ) → FirstFrom f n x m i → Firs
 no_before f n x m i j a b h = b.before i a.from h (a.here (omega (arith, b.within)))
 
 pub first_unique : (f : ℕ → ℕ) (n x m i j : ℕ) → FirstFrom f n x m i → FirstFrom f n x m j → i ≡ j
-first_unique f n x m i j a b =
-    ⊎_elim (λ (e : i ≡ j). e)
-    (⊎_elim (λ (h : i < j). absurd (no_before f n x m i j a b h)) (λ (h : j < i). absurd (no_before f n x m j i b a h)))
-    (cases_order i j)
+first_unique f n x m i j a b = grind (arith, no_before f n x m i j a b, no_before f n x m j i b a)
 
 -- where the names are the same
 pub first_same : (f g : ℕ → ℕ) (n x m i : ℕ) → ((k : ℕ) → k < n → f k ≡ g k) → FirstFrom f n x m i → FirstFrom g n x m i
@@ -56,16 +53,9 @@ seek_by es x zero m h =
 seek_by es x (suc d) m h =
     let f : ℕ → ℕ = λ i. (get_or es i blank).name in
     let r = seek x (drop (m + 1) es) (m + 1) in
-    let s = seek_more es m (m + 1) (omega arith) refl x in
-    let i = seek_by es x d (m + 1) (omega arith) in
-    ⊎_elim
-    (λ (b : eqb (f m) x ≡ true).
-    let q : seek x (drop m es) m ≡ m = s ∙ cond-true _ _ _ b in
-    rw q (first_yes f (length es) x m (omega arith) (eqb-true _ _ b)))
-    (λ (b : eqb (f m) x ≡ false).
-    let q : seek x (drop m es) m ≡ r = s ∙ cond-false _ _ _ b in
-    rw q (first_no f (length es) x m r (eqb-false _ _ b) i))
-    (cases_Bool (eqb (f m) x))
+    rw (seek_more es m (m + 1) (omega arith) refl x)
+    (cond_both (eqb (f m) x) m r (FirstFrom f (length es) x m) (λ b. first_yes f (length es) x m (omega arith) (eqb-true _ _ b))
+    (λ b. first_no f (length es) x m r (eqb-false _ _ b) (seek_by es x d (m + 1) (omega arith))))
 
 pub seek_first : (es : List Element) (x m : ℕ) → m ≤ length es → FirstFrom (λ i. (get_or es i blank).name) (length es) x m (seek x (drop m es) m)
 seek_first es x m h = seek_by es x (length es - m) m (omega arith)

@@ -9,9 +9,12 @@ use Rattle.layout.proofs.Digits.{value16, value32, u16_drop, u32_drop}
 use Rattle.layout.proofs.Tables.{length-header, length-elements, length-names, length_joint_halves, drop-elements, drop-names, drop-joint}
 
 -- the records' own numbers
+abbrev pub ElementReads : List ℕ → Element → ℕ → Type 0
+ElementReads bs e next =
+    (u32_at bs 0 ≡ e.start) × (u32_at bs 4 ≡ e.«end») × (u16_at bs 8 ≡ e.level) × (u16_at bs 10 ≡ e.name) × (u32_at bs 12 ≡ next)
+
 read_element : (e : Element) (v : ℕ) (rest : List ℕ) → e.start < 4294967296 → e.«end» < 4294967296 → e.level < 65536 → e.name < 65536 → v < 4294967296
-    → (u32_at (element_bytes e v ++ rest) 0 ≡ e.start) × (u32_at (element_bytes e v ++ rest) 4 ≡ e.«end») × (u16_at (element_bytes e v ++ rest) 8 ≡ e.level)
-    × (u16_at (element_bytes e v ++ rest) 10 ≡ e.name) × (u32_at (element_bytes e v ++ rest) 12 ≡ v)
+    → ElementReads (element_bytes e v ++ rest) e v
 unfolding u16_at u32_at le16 le32
 read_element e v rest a b c d f = (value32 e.start a, value32 e.«end» b, value16 e.level c, value16 e.name d, value32 v f)
 
@@ -20,11 +23,13 @@ read_name : (o n f : ℕ) (rest : List ℕ) → o < 4294967296 → n < 429496729
 unfolding u32_at le32
 read_name o n f rest a b c = (value32 o a, value32 n b, value32 f c)
 
-read_header : (e n c : ℕ) (rest : List ℕ) → e < 65536 → n < 65536 → c < 65536
-    → (u32_at (header_bytes e n c ++ rest) 0 ≡ 1) × (u32_at (header_bytes e n c ++ rest) 4 ≡ e) × (u32_at (header_bytes e n c ++ rest) 8 ≡ n)
-    × (u32_at (header_bytes e n c ++ rest) 12 ≡ 32) × (u32_at (header_bytes e n c ++ rest) 16 ≡ 32 + 16 * e)
-    × (u32_at (header_bytes e n c ++ rest) 20 ≡ 32 + 16 * e + 12 * n) × (u32_at (header_bytes e n c ++ rest) 24 ≡ c)
-    × (u32_at (header_bytes e n c ++ rest) 28 ≡ 32 + 16 * e + 12 * n + c)
+-- the header, for e elements, n names and c name bytes
+abbrev pub HeaderReads : List ℕ → ℕ → ℕ → ℕ → Type 0
+HeaderReads bs e n c =
+    (u32_at bs 0 ≡ 1) × (u32_at bs 4 ≡ e) × (u32_at bs 8 ≡ n) × (u32_at bs 12 ≡ 32) × (u32_at bs 16 ≡ 32 + 16 * e)
+    × (u32_at bs 20 ≡ 32 + 16 * e + 12 * n) × (u32_at bs 24 ≡ c) × (u32_at bs 28 ≡ 32 + 16 * e + 12 * n + c)
+
+read_header : (e n c : ℕ) (rest : List ℕ) → e < 65536 → n < 65536 → c < 65536 → HeaderReads (header_bytes e n c ++ rest) e n c
 unfolding u32_at le32
 read_header e n c rest p q r = (
   refl,
@@ -55,10 +60,7 @@ pub record Small (es : List Element) (ts : List (List ℕ)) : Type 0 where
   pub short : (j : ℕ) → j < length ts → length (get_or ts j []) ≤ 32
 
 module _ (es : List Element) (ts : List (List ℕ)) (s : Small es ts) where
-  pub head : (u32_at (encoded es ts) 0 ≡ 1) × (u32_at (encoded es ts) 4 ≡ length es) × (u32_at (encoded es ts) 8 ≡ length ts)
-      × (u32_at (encoded es ts) 12 ≡ 32) × (u32_at (encoded es ts) 16 ≡ 32 + 16 * length es)
-      × (u32_at (encoded es ts) 20 ≡ 32 + 16 * length es + 12 * length ts) × (u32_at (encoded es ts) 24 ≡ length (joint ts))
-      × (u32_at (encoded es ts) 28 ≡ 32 + 16 * length es + 12 * length ts + length (joint ts))
+  pub head : HeaderReads (encoded es ts) (length es) (length ts) (length (joint ts))
   head =
       read_header (length es) (length ts) (length (joint ts)) (element_table es 0 ++ (name_table (λ j. seek j es 0) ts 0 0 ++ joint ts))
       (omega (arith, s.elements)) (omega (arith, s.names)) (omega (arith, s.bytes))
@@ -111,9 +113,7 @@ module _ (es : List Element) (ts : List (List ℕ)) (s : Small es ts) where
         ∙ (drop-append-le (16 * k) (element_table es 0) y (omega (arith, length-elements es 0))
         ∙ (ap (λ (x : List ℕ). x ++ y) d ∙ append_assoc v w y))
 
-    numbers : (u32_at (element_bytes (get_or es k blank) next ++ rest) 0 ≡ (get_or es k blank).start) × (u32_at (element_bytes (get_or es k blank) next ++ rest) 4 ≡ (get_or es k blank).«end»)
-        × (u16_at (element_bytes (get_or es k blank) next ++ rest) 8 ≡ (get_or es k blank).level) × (u16_at (element_bytes (get_or es k blank) next ++ rest) 10 ≡ (get_or es k blank).name)
-        × (u32_at (element_bytes (get_or es k blank) next ++ rest) 12 ≡ next)
+    numbers : ElementReads (element_bytes (get_or es k blank) next ++ rest) (get_or es k blank) next
     unfolding next
     numbers =
         let f = s.each k h in
@@ -124,10 +124,10 @@ module _ (es : List Element) (ts : List (List ℕ)) (s : Small es ts) where
         let v = element_bytes (get_or es k blank) next ++ rest in
         let r = numbers in
         let o = 32 + 16 * k in
-        let a : u32_at (encoded es ts) (32 + 16 * k) ≡ (get_or es k blank).start = at_offset (encoded es ts) v o 0 (32 + 16 * k) at_element (omega arith) ∙ r.0 in
-        let b : u32_at (encoded es ts) (36 + 16 * k) ≡ (get_or es k blank).«end» = at_offset (encoded es ts) v o 4 (36 + 16 * k) at_element (omega arith) ∙ r.1 in
-        let c : u16_at (encoded es ts) (40 + 16 * k) ≡ (get_or es k blank).level = at_offset16 (encoded es ts) v o 8 (40 + 16 * k) at_element (omega arith) ∙ r.2 in
-        let d : u16_at (encoded es ts) (42 + 16 * k) ≡ (get_or es k blank).name = at_offset16 (encoded es ts) v o 10 (42 + 16 * k) at_element (omega arith) ∙ r.3 in
+        let a = at_offset (encoded es ts) v o 0 (32 + 16 * k) at_element (omega arith) ∙ r.0 in
+        let b = at_offset (encoded es ts) v o 4 (36 + 16 * k) at_element (omega arith) ∙ r.1 in
+        let c = at_offset16 (encoded es ts) v o 8 (40 + 16 * k) at_element (omega arith) ∙ r.2 in
+        let d = at_offset16 (encoded es ts) v o 10 (42 + 16 * k) at_element (omega arith) ∙ r.3 in
         λ i. record { start = a i; «end» = b i; level = c i; name = d i }
 
     pub shown_next : next_at (encoded es ts) k ≡ seek (get_or es k blank).name (drop (k + 1) es) (k + 1)

@@ -28,27 +28,18 @@ length-header e n c = refl
 
 pub length-elements : (es : List Element) (k : ℕ) → length (element_table es k) ≡ 16 * length es
 length-elements [] k = refl
-length-elements (e ∷ es) k =
-    length-append (element_bytes e (seek e.name es (k + 1))) (element_table es (k + 1))
-    ∙ omega (arith, length-element e (seek e.name es (k + 1)), length-elements es (k + 1))
+length-elements (e ∷ es) k = omega (arith, length-append {A = ℕ}, length-element e (seek e.name es (k + 1)), length-elements es (k + 1))
 
 pub length-names : (f : ℕ → ℕ) (ts : List (List ℕ)) (j o : ℕ) → length (name_table f ts j o) ≡ 12 * length ts
 length-names f [] j o = refl
-length-names f (t ∷ ts) j o =
-    length-append (name_bytes o (length t) (f j)) (name_table f ts (j + 1) (o + length t))
-    ∙ omega (arith, length-name o (length t) (f j), length-names f ts (j + 1) (o + length t))
+length-names f (t ∷ ts) j o = omega (arith, length-append {A = ℕ}, length-name o (length t) (f j), length-names f ts (j + 1) (o + length t))
 
 pub length-encoded : (es : List Element) (ts : List (List ℕ)) → length (encoded es ts) ≡ 32 + 16 * length es + 12 * length ts + length (joint ts)
 length-encoded es ts =
-    let h = header_bytes (length es) (length ts) (length (joint ts)) in
-    let a = element_table es 0 in
-    let b = name_table (λ j. seek j es 0) ts 0 0 in
-    length-append h (a ++ (b ++ joint ts))
-    ∙ omega (
+    omega (
       arith,
+      length-append {A = ℕ},
       length-header (length es) (length ts) (length (joint ts)),
-      length-append a (b ++ joint ts),
-      length-append b (joint ts),
       length-elements es 0,
       length-names (λ j. seek j es 0) ts 0 0,
     )

@@ -1,5 +1,5 @@
 -- A lawful sheet is the sheet of the tree that it shows, and that tree is lawful.
-use Rattle.std.proofs.Common.{◌≡◌, ℕ, zero, suc, ◌+◌, ◌-◌, ◌*◌, ◌<◌, ◌≤◌, max, List, [], ◌∷◌, ◌++◌, length, get_or, take, drop, sym, refl, ap, ◌∙◌, subst, add-one, arith, lit<, lit≤}
+use Rattle.std.proofs.Common.{◌≡◌, ℕ, zero, suc, ◌+◌, ◌-◌, ◌*◌, ◌<◌, ◌≤◌, max, List, [], ◌∷◌, ◌++◌, length, get_or, take, drop, sym, refl, ap, ◌∙◌, subst, add-one, arith, lit<}
 use Rattle.std.proofs.lemmas.List.{append_assoc, drop-drop, drop_all, at_drop_more, length-take-le, length-drop, take-append-drop}
 use Rattle.std.proofs.lemmas.List.FromFn.{length-map-range_with_len, get_or-map-range_with_len}
 use Rattle.markup.specs.Name.{LawfulName}
@@ -46,15 +46,10 @@ module _ (bs : List ℕ) (bytes : Bytes bs) (law : LawfulSheet bs) where
   element_part : (k : ℕ) → k < element_count bs → drop (32 + 16 * k) bs ≡ element_bytes (element_at bs k) (next_at bs k) ++ drop (32 + 16 * (k + 1)) bs
   element_part k h =
       let e = size in
-      let a = word (44 + 16 * k) (32 + 16 * (k + 1)) (omega arith) (omega arith) in
-      let b = half (42 + 16 * k) (44 + 16 * k) (omega arith) (omega arith) in
-      let c = half (40 + 16 * k) (42 + 16 * k) (omega arith) (omega arith) in
-      let d = word (36 + 16 * k) (40 + 16 * k) (omega arith) (omega arith) in
-      let f = word (32 + 16 * k) (36 + 16 * k) (omega arith) (omega arith) in
-      let l₃ = join _ _ _ _ _ b a in
-      let l₂ = join _ _ _ _ _ c l₃ in
-      let l₁ = join _ _ _ _ _ d l₂ in
-      join _ _ _ _ _ f l₁
+      join _ _ _ _ _ (word (32 + 16 * k) (36 + 16 * k) (omega arith) (omega arith))
+      (join _ _ _ _ _ (word (36 + 16 * k) (40 + 16 * k) (omega arith) (omega arith))
+      (join _ _ _ _ _ (half (40 + 16 * k) (42 + 16 * k) (omega arith) (omega arith))
+      (join _ _ _ _ _ (half (42 + 16 * k) (44 + 16 * k) (omega arith) (omega arith)) (word (44 + 16 * k) (32 + 16 * (k + 1)) (omega arith) (omega arith)))))
 
   els : List Element
   els = elements_of bs
@@ -111,11 +106,8 @@ module _ (bs : List ℕ) (bytes : Bytes bs) (law : LawfulSheet bs) where
   name_part j h =
       let e = size in
       let o = name_offset bs j in
-      let a = word (o + 8) (name_offset bs (j + 1)) (omega arith) (omega arith) in
-      let b = word (o + 4) (o + 8) (omega arith) (omega arith) in
-      let c = word o (o + 4) (omega arith) (omega arith) in
-      let l₁ = join _ _ _ _ _ b a in
-      join _ _ _ _ _ c l₁
+      join _ _ _ _ _ (word o (o + 4) (omega arith) (omega arith))
+      (join _ _ _ _ _ (word (o + 4) (o + 8) (omega arith) (omega arith)) (word (o + 8) (name_offset bs (j + 1)) (omega arith) (omega arith)))
 
   text_length : (j : ℕ) → j < name_count bs → length (name_text bs j) ≡ (name_at bs j).length
   text_length j h =
@@ -175,37 +167,22 @@ module _ (bs : List ℕ) (bytes : Bytes bs) (law : LawfulSheet bs) where
   texts_length : length (joint nms) ≡ byte_count bs
   texts_length = ap length (sym texts) ∙ (length-drop (bytes_offset bs) bs ∙ omega (arith, size))
 
-  word_join : (o p : ℕ) (ns : List ℕ) → p ≡ o + 4 → p ≤ 32 → drop p bs ≡ words ns ++ drop 32 bs → drop o bs ≡ words (u32_at bs o ∷ ns) ++ drop 32 bs
-  word_join o p ns e h t = join (le32 (u32_at bs o)) (words ns) o p 32 (word o p e (omega (arith, size))) t
+  -- n numbers of 32 bits, from o on
+  abbrev numbers : ℕ → ℕ → List ℕ
+  numbers zero o = []
+  numbers (suc n) o = u32_at bs o ∷ numbers n (o + 4)
+
+  words_part : (n o : ℕ) → o + 4 * n ≡ 32 → drop o bs ≡ words (numbers n o) ++ drop 32 bs
+  words_part zero o e = let z : o ≡ 32 = omega arith in rw z
+  words_part (suc n) o e = join _ _ _ _ 32 (word o (o + 4) refl (omega (arith, size))) (words_part n (o + 4) (omega arith))
 
   header_part : bs ≡ words (u32_at bs 0 ∷ u32_at bs 4 ∷ u32_at bs 8 ∷ u32_at bs 12 ∷ u32_at bs 16 ∷ u32_at bs 20 ∷ u32_at bs 24 ∷ u32_at bs 28 ∷ []) ++ drop 32 bs
-  header_part =
-      let w₇ = u32_at bs 28 ∷ [] in
-      let w₆ = u32_at bs 24 ∷ w₇ in
-      let w₅ = u32_at bs 20 ∷ w₆ in
-      let w₄ = u32_at bs 16 ∷ w₅ in
-      let w₃ = u32_at bs 12 ∷ w₄ in
-      let w₂ = u32_at bs 8 ∷ w₃ in
-      let w₁ = u32_at bs 4 ∷ w₂ in
-      word_join 0 4 w₁ refl (lit≤ tt)
-      (word_join 4 8 w₂ refl (lit≤ tt)
-      (word_join 8 12 w₃ refl (lit≤ tt)
-      (word_join 12 16 w₄ refl (lit≤ tt)
-      (word_join 16 20 w₅ refl (lit≤ tt)
-      (word_join 20 24 w₆ refl (lit≤ tt) (word_join 24 28 w₇ refl (lit≤ tt) (word_join 28 32 [] refl (lit≤ tt) refl)))))))
+  header_part = words_part 8 0 refl
 
   header_same : words (u32_at bs 0 ∷ u32_at bs 4 ∷ u32_at bs 8 ∷ u32_at bs 12 ∷ u32_at bs 16 ∷ u32_at bs 20 ∷ u32_at bs 24 ∷ u32_at bs 28 ∷ [])
       ≡ header_bytes (length els) (length nms) (length (joint nms))
   header_same =
-      let l = els_length in
-      let n = nms_length in
-      let t = texts_length in
-      let f₀ = law.header 0 (lit< tt) in
-      let f₃ = law.header 3 (lit< tt) in
-      let f₄ = law.header 4 (lit< tt) in
-      let f₅ = law.header 5 (lit< tt) in
-      let f₇ = law.header 7 (lit< tt) in
-      rw (l, n, t, f₀, f₃, f₄, f₅, f₇)
+      rw (els_length, nms_length, texts_length, law.header 0 (lit< tt), law.header 3 (lit< tt), law.header 4 (lit< tt), law.header 5 (lit< tt), law.header 7 (lit< tt))
 
   one_by : bs ≡ encoded els nms
   one_by =

@@ -1,10 +1,10 @@
 -- The laws of lawful books. A book is taken by places, as a count and a function, until the end.
-use Rattle.std.proofs.Common.{◌≡◌, ℕ, zero, suc, ◌+◌, ◌<◌, ◌≤◌, Bool, false, ◌⊎◌, List, [], ◌∷◌, ◌++◌, length, sym, refl, ap, ◌∙◌, subst, inl, inr, ⊎_elim, arith, length-append}
+use Rattle.std.proofs.Common.{◌≡◌, ℕ, zero, suc, ◌+◌, ◌<◌, ◌≤◌, Bool, false, ◌⊎◌, List, [], ◌∷◌, ◌++◌, length, sym, refl, ap, ◌∙◌, subst, ⊎_elim, arith, length-append}
 use mathlib.Core.List.{Sublistᴰ}
 use Rattle.std.proofs.Math.ListN.{get_or-append}
 use Rattle.std.specs.List.{ContainsAt as Has, AllByRecursion as Every}
 use Rattle.std.proofs.ByRecursion.{All-from_get_or, all_has_itself}
-use Rattle.std.proofs.lemmas.Bool.{cases_lt, cases_eq, cases_order, le-ltb, and_left}
+use Rattle.std.proofs.lemmas.Bool.{cases_lt, cases_eq, le-ltb, and_left}
 use Rattle.tree.specs.Region.{Region, Contains, contains, NestedOrApart, count_below, BookOf, LawfulBook, at, Fits}
 use Rattle.tree.specs.Laws.{StartsTellContainment, Rising, PartsRise, LawfulOneByOne, OneMoreRegion}
 
@@ -32,10 +32,7 @@ count_tail f m (suc n) l h =
 
 -- the later one, where it starts before the earlier ends
 pub contains_later : (u v : Region) → v.start < v.end → NestedOrApart u v → u.start < v.start → v.start ≤ u.end → Contains u v
-contains_later u v span (inl c) h k = c
-contains_later u v span (inr (inl c)) h k = absurd (omega (arith, c.0))
-contains_later u v span (inr (inr (inl c))) h k = absurd (omega arith)
-contains_later u v span (inr (inr (inr c))) h k = absurd (omega arith)
+contains_later u v span n h k = grind arith
 
 -- none contains one that does not start later
 later_no : (u v : Region) → v.start ≤ u.start → contains u v ≡ false
@@ -45,13 +42,10 @@ later_no u v h = and_left _ _ (le-ltb _ _ h)
 module _ (r : ℕ → Region) where
   -- starts rise weakly from i to j
   from : (i j : ℕ) → i ≤ j → (i < j → (r i).start < (r j).start) → (r i).start ≤ (r j).start
-  from i j h up =
-      ⊎_elim (λ (o : i < j). let u = up o in omega arith) (λ (o : j ≤ i). let e : i ≡ j = omega arith in rw e (omega arith)) (cases_lt i j)
+  from i j h up = grind (arith, up)
 
   pair : (i j : ℕ) → i < j → Fits r j → Contains (r i) (r j) ⊎ ((r i).end < (r j).start)
-  pair i j h f =
-      ⊎_elim (λ (l : (r i).end < (r j).start). inr l) (λ (l : (r j).start ≤ (r i).end). inl (f.rising i h, f.nested i h l))
-      (cases_lt (r i).end (r j).start)
+  pair i j h f = grind (arith, f.rising i, f.nested i)
 
   pub book_by : (n : ℕ) → 1 ≤ n → n ≤ 65535 → ((k : ℕ) → k < n → Fits r k) → BookOf n r
   book_by n some few fits = record {
@@ -60,11 +54,7 @@ module _ (r : ℕ → Region) where
     each = λ i h. ((fits i h).span, (fits i h).reach, (fits i h).depth);
     rising = λ i j h k. (fits j k).rising i h;
     apart = λ i j h k ne.
-        ⊎_elim (λ (e : i ≡ j). absurd (ne e))
-        (⊎_elim
-        (λ (o : i < j). ⊎_elim (λ c. inl c) (λ c. inr (inr (inl c))) (pair i j o (fits j k)))
-        (λ (o : j < i). ⊎_elim (λ c. inr (inl c)) (λ c. inr (inr (inr c))) (pair j i o (fits i h))))
-        (cases_order i j);
+        grind (arith, λ (o : i < j). pair i j o (fits j k), λ (o : j < i). pair j i o (fits i h));
     counted = λ i h.
         (fits i h).counted
         ∙ sym (count_tail (λ j. contains (r j) (r i)) i n (omega arith) (λ j a b. later_no (r j) (r i) (from i j a (λ o. (fits j b).rising i o))));
@@ -89,22 +79,8 @@ pub lawful_one_by_one : LawfulOneByOne
 lawful_one_by_one n r some few = (fits_in r n, book_by r n some few)
 
 -- The same regions by another function.
-pub same_book : (n : ℕ) (f g : ℕ → Region) → ((i : ℕ) → i < n → f i ≡ g i) → BookOf n f → BookOf n g
-same_book n f g e b = record {
-  some = b.some;
-  few = b.few;
-  each = λ i h. subst (λ (r : Region). (r.start < r.end) × (r.end ≤ 16777215) × (r.level ≤ 63)) (e i h) (b.each i h);
-  rising = λ i j h k. let p = e i (omega arith) in let q = e j k in rw (← p, ← q) (b.rising i j h k);
-  apart = λ i j h k ne. let p = e i h in let q = e j k in rw (← p, ← q) (b.apart i j h k ne);
-  counted = λ i h.
-      let p = e i h in
-      ap (λ (r : Region). r.level) (sym p)
-      ∙ (b.counted i h
-      ∙ count_same (λ j. contains (f j) (f i)) (λ j. contains (g j) (g i)) n (λ j k. let q = e j k in rw (p, q)));
-  first = λ i h k. let p = e 0 (omega arith) in let q = e i k in rw (← p, ← q) (b.first i h k);
-}
 
--- and so of each region with those before it
+-- a region with those before it
 pub same_fits : (k : ℕ) (f g : ℕ → Region) → ((i : ℕ) → i ≤ k → f i ≡ g i) → Fits f k → Fits g k
 same_fits k f g e h =
     let here = e k (omega arith) in
@@ -119,6 +95,10 @@ same_fits k f g e h =
           ∙ (h.counted ∙ count_same (λ j. contains (f j) (f k)) (λ j. contains (g j) (g k)) k (λ j l. let q = e j (omega arith) in rw (here, q)));
       first = λ l. let q = e 0 (omega arith) in rw (← here, ← q) (h.first l);
     }
+
+-- and so the whole book
+pub same_book : (n : ℕ) (f g : ℕ → Region) → ((i : ℕ) → i < n → f i ≡ g i) → BookOf n f → BookOf n g
+same_book n f g e b = book_by g n b.some b.few (λ k h. same_fits k f g (λ i l. e i (omega arith)) (fits_in f n b k h))
 
 -- One more at the end.
 pub one_more_region : OneMoreRegion

@@ -2,7 +2,7 @@
 use Rattle.std.proofs.Common.{◌≡◌, ℕ, zero, suc, ◌+◌, ◌<◌, ◌≤◌, max, List, [], ◌∷◌, length, get_or, sym, subst, ⊎_elim, arith}
 use Rattle.std.specs.List.{AllByRecursion as Every}
 use Rattle.std.proofs.ByRecursion.{All-from_get_or}
-use Rattle.std.proofs.lemmas.Bool.{cases_lt, cases_eq}
+use Rattle.std.proofs.lemmas.Bool.{cases_lt}
 use Rattle.tree.specs.declared.element.Element.{Element}
 use Rattle.tree.specs.Tree.{Tree, FirstUses, LawfulTree}
 
@@ -62,11 +62,9 @@ names_known t l =
 -- What the count says.
 module _ (f : ℕ → ℕ) (n : ℕ) (u : ℕ → ℕ) (by : UsedBy f n u) where
   used_rises : (i k : ℕ) → i ≤ k → k ≤ n → u i ≤ u k
-  used_rises i zero h l = let e : i ≡ 0 = omega arith in rw e (omega arith)
+  used_rises i zero h l = grind arith
   used_rises i (suc k) h l =
-      ⊎_elim (λ (e : i ≡ suc k). rw e (omega arith))
-      (λ (ne : i ≡ suc k → ⊥). omega (arith, by.1 k l, used_rises i k (omega arith) (omega arith)))
-      (cases_eq i (suc k))
+      grind (arith, by.1 k l, λ (a : i ≤ k). used_rises i k a (omega arith))
 
   -- an element's name number is below the count behind it
   pub name_below : (i k : ℕ) → i < k → k ≤ n → f i < u k
