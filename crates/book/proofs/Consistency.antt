@@ -7,6 +7,7 @@ use Rattle.markup.specs.declared.fault.Fault.{Fault}
 use Rattle.markup.proofs.Granted.{Granted, grant, refuse, either, chain}
 use Rattle.tree.specs.declared.element.Element.{Element}
 use Rattle.lexer.specs.Item.{Item, Item.start, Item.end, Item.empty, Item.text}
+use Rattle.book.specs.Document.{intern}
 use Rattle.book.specs.Reading.{OpenElement, State, Consistent, initial, ended, entered, opened, leaf, close, blanks_only, step}
 use Rattle.book.proofs.Naming.{intern_different}
 
@@ -14,10 +15,14 @@ pub initial_consistent : Consistent initial
 initial_consistent = record { different = λ j k l m e. absurd (omega arith); among = tt }
 
 -- among more elements
-among_more : (n m : ℕ) (os : List OpenElement) → n ≤ m → Every (λ (o : OpenElement). o.number < n) os → Every (λ (o : OpenElement). o.number < m) os
+pub among_more : (n m : ℕ) (os : List OpenElement) → n ≤ m → Every (λ (o : OpenElement). o.number < n) os → Every (λ (o : OpenElement). o.number < m) os
 among_more n m os h a = All-weaker (λ (o : OpenElement). o.number < n) (λ (o : OpenElement). o.number < m) (λ o l. omega arith) os a
 
 module _ (s : State) (c : Consistent s) (p : ℕ) (name : List ℕ) where
+  -- with the name among the names
+  pub named_consistent : Consistent (record { elements = s.elements; names = intern s.names name; opens = s.opens })
+  named_consistent = record { different = intern_different s.names name c.different; among = c.among }
+
   opened_consistent : (e : Element) → Consistent (opened s name e)
   opened_consistent e =
       let long = length-append s.elements (e ∷ []) in

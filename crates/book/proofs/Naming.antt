@@ -6,7 +6,7 @@ use Rattle.std.specs.List.{AllByRecursion as Every}
 use Rattle.std.specs.Str.{bytes_eq}
 use Rattle.std.proofs.ByRecursion.{All-append, All-get_or}
 use Rattle.std.proofs.lemmas.Slice.Eq.{bytes_eq-Decides}
-use Rattle.std.proofs.lemmas.List.Sums.{prefix_len-le-length}
+use Rattle.std.proofs.lemmas.List.Sums.{prefix_len-le-length, position_or_len_is}
 use Rattle.std.proofs.lemmas.Bool.{cases_Bool, cases_lt, cond-true, cond-false, eqb-true, eqb-false, true≢false}
 use Rattle.book.specs.Document.{position, intern}
 use Rattle.book.specs.Reading.{Different}
@@ -92,3 +92,11 @@ module _ (names : List (List ℕ)) (name : List ℕ) where
       (sym (old j (omega arith)) ∙ e ∙ ap (λ i. get_or (names ++ name ∷ []) i []) (sym last) ∙ get_or-append_seam names name [] []))
       (cases_lt k (length names))))
       interned
+
+-- the place of a name is the first where it stands
+pub position_is : (names : List (List ℕ)) (name : List ℕ) (a : ℕ) → a ≤ length names → (a < length names → get_or names a [] ≡ name) → ((i : ℕ) → i < a → get_or names i [] ≡ name → ⊥) → position names name ≡ a
+position_is names name a within at before =
+    position_or_len_is (λ n. bytes_eq n name) names a [] within
+    (λ k l. ⊎_elim (λ (y : bytes_eq (get_or names k []) name ≡ true). absurd (before k l ((bytes_eq-Decides (get_or names k []) name).0 y))) (λ (y : bytes_eq (get_or names k []) name ≡ false). y)
+    (cases_Bool (bytes_eq (get_or names k []) name)))
+    (λ l. (bytes_eq-Decides (get_or names a []) name).1 (at l))

@@ -12,8 +12,7 @@ use Rattle.book.specs.Document.{Node, position, intern, numbered, named, indexed
 use Rattle.book.specs.Reading.{Different}
 use Rattle.book.specs.Answer.{node_of, nodes_of}
 use Rattle.book.specs.Promises.{NamesAreNumbered}
-use Rattle.book.proofs.Naming.{interned, intern_counts, intern_grows, intern_at, intern_keeps, intern_all, intern_different, position_within, position_below}
-use Rattle.book.proofs.Search.{position_is}
+use Rattle.book.proofs.Naming.{position_is, interned, intern_counts, intern_grows, intern_at, intern_keeps, intern_all, intern_different, position_within, position_below}
 
 pub named_grows : (names : List (List ℕ)) (ns : List Node) → length names ≤ length (named names ns)
 named_grows names [] = omega arith

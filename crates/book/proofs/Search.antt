@@ -1,61 +1,69 @@
--- The search for a name among the parts of a text.
-use Rattle.std.proofs.Common.{◌≡◌, ℕ, zero, suc, ◌+◌, ◌<◌, ◌≤◌, Bool, true, false, cond, not, List, [], ◌∷◌, ◌++◌, length, get_or, drop, sym, ap, ◌∙◌, ⊎_elim, arith, Bor}
+-- The look-up of a name among parts of the text.
+use Rattle.std.proofs.Common.{◌≡◌, ℕ, suc, ◌+◌, ◌||◌, if◌then◌else◌, Bool, true, false, cond, not, ltb, nat_eq, List, [], ◌∷◌, ◌++◌, length, Some, None, Option, sym, refl, ap, ◌∙◌, ⊎_elim, arith, Bor}
+use Rattle.std.specs.Cmp.Lexicographic.{pointwise}
+use Rattle.std.specs.List.{position_or_len, list_any, position as first_place}
+use Rattle.std.specs.Option.{unwrap_or}
 use Rattle.std.specs.Str.{bytes_eq}
-use Rattle.std.proofs.lemmas.Slice.Eq.{bytes_eq-Decides}
-use Rattle.std.proofs.lemmas.List.{get_or-map, length-map, map_push}
-use Rattle.std.proofs.lemmas.List.Sums.{prefix_len-drop_yes, prefix_len-drop_no, prefix_len-drop_all}
-use Rattle.std.proofs.lemmas.Bool.{cases_Bool, cond-true, cond-false, eq-eqb, ne_eqb}
+use Rattle.std.proofs.lemmas.Slice.Eq.{bytes_eq-Decides, slice_eq-Decides}
+use Rattle.std.proofs.lemmas.Bool.{cases_Bool, ltb-false, lt-ltb, le-ltb}
+use Rattle.std.proofs.lemmas.Bool.Decides.{Decides-eqb, same_from_decides}
+use Rattle.std.proofs.lemmas.List.{length-map, map_push}
+use Rattle.std.proofs.lemmas.List.Sums.{prefix_len-le-length}
+use Rattle.indexmap.specs.IndexSet.{insert_key}
 use Rattle.book.specs.Parts.{bytes_of}
 use Rattle.book.specs.Document.{position, intern}
-use Rattle.book.specs.Reading.{Different}
+use Rattle.book.proofs.Naming.{interned}
 
-module _ (names : List (Bor (List ℕ))) (name : List ℕ) (i : ℕ) where
-  long : length (bytes_of names) ≡ length names
-  long = length-map names (λ n. n.now)
+one_more : (m n : ℕ) → ltb m n ≡ ltb (1 + m) (suc n)
+one_more m n = grind arith
 
-  at : (d : Bor (List ℕ)) → i < length names → get_or (bytes_of names) i [] ≡ (get_or names i d).now
-  at d h = get_or-map (λ (n : Bor (List ℕ)). n.now) names i d [] h
+module _ (name : List ℕ) where
+  -- what a look-up asks of each part
+  abbrev pub is_named : Bor (List ℕ) → Bool
+  is_named part = pointwise nat_eq name part.now
 
-  pub here : (d : Bor (List ℕ)) (r : Bool) → i < length names → r ≡ bytes_eq (get_or names i d).now name → r ≡ true → position (drop i (bytes_of names)) name ≡ 0
-  here d r h e t =
-      prefix_len-drop_no (λ n. not (bytes_eq n name)) (bytes_of names) i [] (omega (arith, long)) (ap (λ n. not (bytes_eq n name)) (at d h) ∙ ap not (sym e ∙ t))
+  same_test : (part : Bor (List ℕ)) → bytes_eq part.now name ≡ is_named part
+  same_test part =
+      let d = bytes_eq-Decides part.now name in
+      same_from_decides (bytes_eq part.now name) (is_named part) (λ t. sym (d.0 t), λ e. d.1 (sym e)) (slice_eq-Decides Decides-eqb name part.now (is_named part) refl)
 
-  pub further : (d : Bor (List ℕ)) (r : Bool) → i < length names → r ≡ bytes_eq (get_or names i d).now name → r ≡ false → position (drop i (bytes_of names)) name ≡ 1 + position (drop (i + 1) (bytes_of names)) name
-  further d r h e t =
-      prefix_len-drop_yes (λ n. not (bytes_eq n name)) (bytes_of names) i [] (omega (arith, long)) (ap (λ n. not (bytes_eq n name)) (at d h) ∙ ap not (sym e ∙ t))
+  pub position_of_parts : (parts : List (Bor (List ℕ))) → position (bytes_of parts) name ≡ position_or_len is_named parts
+  position_of_parts [] = refl
+  position_of_parts (part ∷ parts) = λ i. cond (not (same_test part i)) (1 + position_of_parts parts i) 0
 
-  pub nowhere : length names ≤ i → position (drop i (bytes_of names)) name ≡ 0
-  nowhere h = prefix_len-drop_all (λ n. not (bytes_eq n name)) (bytes_of names) i (omega (arith, long))
+  -- the number that it answers, or how many names there are
+  pub number_is : (parts : List (Bor (List ℕ))) (known : Option ℕ) → known ≡ first_place is_named parts → unwrap_or known (length parts) ≡ position (bytes_of parts) name
+  number_is parts known e =
+      let p : ℕ = position_or_len is_named parts in
+      let within = prefix_len-le-length (λ part. not (is_named part)) parts in
+      ap (λ k. unwrap_or k (length parts)) e
+      ∙ ⊎_elim (λ (l : ltb p (length parts) ≡ true). ap (λ b. unwrap_or (cond b (Some p) None) (length parts)) l)
+      (λ (l : ltb p (length parts) ≡ false).
+      let ge = ltb-false _ _ l in
+      let z : length parts ≡ p = omega arith in
+      ap (λ b. unwrap_or (cond b (Some p) None) (length parts)) l ∙ z)
+      (cases_Bool (ltb p (length parts)))
+      ∙ sym (position_of_parts parts)
 
-module _ (before : List (Bor (List ℕ))) (name : List ℕ) where
-  count : length (bytes_of before) ≡ length before
-  count = length-map before (λ n. n.now)
+  any_before : (parts : List (Bor (List ℕ))) → list_any is_named parts ≡ ltb (position (bytes_of parts) name) (length parts)
+  any_before [] = refl
+  any_before (part ∷ parts) = ap (λ b. b || list_any is_named parts) (sym (same_test part)) ∙ by (any_before parts) (bytes_eq part.now name)
+    where
+      by : list_any is_named parts ≡ ltb (position (bytes_of parts) name) (length parts) → (b : Bool) → (b || list_any is_named parts) ≡ ltb (cond (not b) (1 + position (bytes_of parts) name) 0) (suc (length parts))
+      by e true = sym (lt-ltb 0 (suc (length parts)) (omega arith))
+      by e false = e ∙ one_more (position (bytes_of parts) name) (length parts)
 
-  pub interned_old : (position (bytes_of before) name ≡ length before → ⊥) → bytes_of before ≡ intern (bytes_of before) name
-  interned_old h = sym (cond-false _ _ _ (ne_eqb _ _ (λ e. h (e ∙ count))))
-
-  pub interned_new : (after : List (Bor (List ℕ))) (r : Bor (List ℕ)) → r.now ≡ name → position (bytes_of before) name ≡ length before → after ≡ before ++ r ∷ [] → bytes_of after ≡ intern (bytes_of before) name
-  interned_new after r e h a =
-      ap bytes_of a ∙ map_push (λ (n : Bor (List ℕ)). n.now) before r ∙ ap (λ n. bytes_of before ++ n ∷ []) e ∙ sym (cond-true _ _ _ (eq-eqb _ _ (h ∙ sym count)))
-
--- Where the names are different, the place of a name is its number.
-
-pub position_is : (names : List (List ℕ)) (x : List ℕ) (a : ℕ) → a ≤ length names → (a < length names → get_or names a [] ≡ x) → ((i : ℕ) → i < a → get_or names i [] ≡ x → ⊥) → position names x ≡ a
-position_is [] x a l h k = omega arith
-position_is (m ∷ names) x zero l h k =
-    let e : bytes_eq m x ≡ true = (bytes_eq-Decides m x).1 (h (omega arith)) in
-    ap (λ y. cond (not y) (1 + position names x) 0) e
-position_is (m ∷ names) x (suc a) l h k =
-    let e : bytes_eq m x ≡ false = ⊎_elim (λ (y : bytes_eq m x ≡ true). absurd (k 0 (omega arith) ((bytes_eq-Decides m x).0 y))) (λ (y : bytes_eq m x ≡ false). y) (cases_Bool (bytes_eq m x)) in
-    let r = position_is names x a (omega arith) (λ y. h (omega arith)) (λ i y. k (suc i) (omega arith)) in
-    ap (λ y. cond (not y) (1 + position names x) 0) e ∙ (let z : 1 + position names x ≡ suc a = omega arith in z)
-
-pub position_at : (names : List (List ℕ)) (x : List ℕ) (a : ℕ) → Different names → a < length names → get_or names a [] ≡ x → position names x ≡ a
-position_at names x a d l h = position_is names x a (omega arith) (λ _. h) (λ i k e. d i a k l (e ∙ sym h))
-
--- the same for a part of the text in the list
-pub found_at : (names : List (Bor (List ℕ))) (x : List ℕ) (a : ℕ) (d : Bor (List ℕ)) (r : Bool) → Different (bytes_of names) → a < length names
-    → r ≡ bytes_eq (get_or names a d).now x → r ≡ true → a ≡ position (bytes_of names) x
-found_at names x a d r different l e same =
-    sym (position_at (bytes_of names) x a different (omega (arith, length-map names (λ (n : Bor (List ℕ)). n.now)))
-    (get_or-map (λ (n : Bor (List ℕ)). n.now) names a d [] l ∙ (bytes_eq-Decides (get_or names a d).now x).0 (sym e ∙ same)))
+-- a look-up that adds what it doesn't find
+pub interned_parts : (parts : List (Bor (List ℕ))) (part : Bor (List ℕ)) → bytes_of (insert_key (λ (a b : Bor (List ℕ)). pointwise nat_eq a.now b.now) parts part) ≡ intern (bytes_of parts) part.now
+interned_parts parts part =
+    let name : List ℕ = part.now in
+    let long = length-map parts (λ (n : Bor (List ℕ)). n.now) in
+    ap (λ b. bytes_of (if b then parts else parts ++ part ∷ [])) (any_before name parts)
+    ∙ ⊎_elim
+    (λ q.
+    ap (λ b. bytes_of (if b then parts else parts ++ part ∷ [])) (lt-ltb (position (bytes_of parts) name) (length parts) (omega (arith, q.0)))
+    ∙ sym q.1)
+    (λ q.
+    ap (λ b. bytes_of (if b then parts else parts ++ part ∷ [])) (le-ltb (position (bytes_of parts) name) (length parts) (omega (arith, q.0)))
+    ∙ map_push (λ (n : Bor (List ℕ)). n.now) parts part ∙ sym q.1)
+    (interned (bytes_of parts) name)

@@ -6,7 +6,7 @@ use Rattle.markup.specs.declared.fault.Error.TheVariants.{Refused, Memory}
 use Rattle.tree.specs.Tree.{Tree}
 use Rattle.book.specs.declared.book.Book.{Book}
 use Rattle.book.specs.declared.reader.Open.{Open}
-use Rattle.book.specs.declared.reader.Reader.{Reader}
+use Rattle.book.specs.declared.reader.Reader.TheInside.{Inside}
 use Rattle.book.specs.Parts.{bytes_of}
 use Rattle.book.specs.Reading.{OpenElement, State}
 
@@ -23,10 +23,10 @@ Answers {X} {Y} d (Err e) f = Fails d e
 abbrev pub open_of : Open → OpenElement
 open_of o = record { number = o.number; element = o.element; name = o.name.now }
 
-abbrev pub state_of : Reader → State
+abbrev pub state_of : Inside → State
 state_of r = record {
   elements = r.elements.items;
-  names = bytes_of r.names.list.items;
+  names = bytes_of r.names.keys;
   opens = map open_of (reverse r.opens.items);
 }
 

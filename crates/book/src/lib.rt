@@ -2,7 +2,6 @@
 #![tactic(auto)]
 
 pub mod book;
-mod names;
 pub mod promises;
 pub mod reader;
 
