@@ -14,7 +14,8 @@ use Rattle.book.specs.Promises.{GrantedExactly, EveryTextHasOneAnswer}
 use Rattle.book.proofs.Complete.{complete}
 use Rattle.book.proofs.Numbering.{names_are_numbered, renumbered}
 use Rattle.book.proofs.Refusals.{refused_exactly}
-use Rattle.book.proofs.Sound.{sound, ok_or_err}
+use Rattle.book.proofs.Results.{ok_same, err_same, ok_or_err}
+use Rattle.book.proofs.Sound.{sound}
 use Rattle.book.proofs.Trees.{trees_are_lawful}
 
 pub granted_exactly : GrantedExactly
@@ -33,12 +34,6 @@ pub reads_book : (text : List ℕ) (r : Result Book Error) → Answers (read_boo
 reads_book text (Ok b) e = granted text (tree_of b) e
 reads_book text (Err (Refused f)) e = (refused_exactly text f).0 e
 reads_book text (Err Memory) e = tt
-
-ok_same : (t u : Tree) → ◌≡◌ {A = Result Tree Fault} (Ok t) (Ok u) → t ≡ u
-ok_same t u e = cc
-
-err_same : (f g : Fault) → ◌≡◌ {A = Result Tree Fault} (Err f) (Err g) → f ≡ g
-err_same f g e = cc
 
 pub every_text_has_one_answer : EveryTextHasOneAnswer
 every_text_has_one_answer text = record {

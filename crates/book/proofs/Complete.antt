@@ -10,7 +10,7 @@ use Rattle.tree.specs.declared.element.Element.{Element}
 use Rattle.lexer.specs.Item.{Item.start, Item.end, Item.empty, spelling}
 use Rattle.book.specs.Document.{Content, Content.none, Content.byte, Content.bare, Content.full, spell, Lawful, Blank, Single, Node, nodes_at, Document, position, intern, numbered, named, indexed, Shallow, Within}
 use Rattle.book.specs.Reading.{State, initial, enter, ended, opened, leaf, finished, read_book}
-use Rattle.book.proofs.Entering.{allowed_ok, enter_by}
+use Rattle.book.proofs.Entering.{begun, allowed_ok, enter_by}
 use Rattle.book.proofs.Machine.{runs, runs_byte, runs_tag}
 use Rattle.book.proofs.Naming.{position_below}
 use Rattle.book.proofs.Numbering.{named_grows, named-append, numbered-append, numbered_length}
@@ -62,9 +62,6 @@ module _ (s : State) (xs ys : List Node) (r : Room s (xs ++ ys)) where
 -- an element may begin here
 abbrev Free : State → Type 0
 Free s = (eqb (length s.opens) 0 && not (eqb (length s.elements) 0)) ≡ false
-
-abbrev begun : State → ℕ → List ℕ → Element
-begun s p name = record { start = p; «end» = 0; level = length s.opens; name = position s.names name }
 
 enter_ok : (s : State) (p : ℕ) (n : Node) → Free s → n.level ≡ length s.opens → Room s (n ∷ []) → enter (length s.opens) (length s.elements) s.names p n.name ≡ Ok (begun s p n.name)
 enter_ok s p n f l r =

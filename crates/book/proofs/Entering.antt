@@ -1,11 +1,16 @@
 -- What the tests on the tag of an element come to.
-use Rattle.std.proofs.Common.{◌≡◌, ℕ, ◌<◌, ◌≤◌, false, not, ◌&&◌, ◌||◌, eqb, leb, List, Ok, Result, sym, ap, ◌∙◌, arith}
+use Rattle.std.proofs.Common.{◌≡◌, ℕ, ◌<◌, ◌≤◌, false, not, ◌&&◌, ◌||◌, eqb, leb, List, length, Ok, Result, sym, ap, ◌∙◌, arith}
 use Rattle.std.proofs.lemmas.Bool.{cond-false, or_from, or_parts, lt-leb, leb-false}
 use Rattle.markup.specs.declared.fault.Fault.{Fault}
 use Rattle.markup.specs.Faults.{and_then}
 use Rattle.markup.proofs.Granted.{Granted, grant, refuse, either}
+use Rattle.tree.specs.declared.element.Element.{Element}
 use Rattle.book.specs.Document.{position}
-use Rattle.book.specs.Reading.{allowed, enter}
+use Rattle.book.specs.Reading.{State, allowed, enter}
+
+-- the element that begins at p
+abbrev pub begun : State → ℕ → List ℕ → Element
+begun s p name = record { start = p; «end» = 0; level = length s.opens; name = position s.names name }
 
 -- what is known of an element that is allowed
 pub record Allowed (opens count number : ℕ) : Type 0 where

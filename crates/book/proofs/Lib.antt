@@ -1,3 +1,4 @@
+mod Results
 mod Search
 mod Entering
 mod Steps

@@ -1,9 +1,10 @@
 -- Reading at the front of a text, tag by tag and byte by byte, with no bound on the items.
 use Rattle.std.proofs.Common.{◌≡◌, ℕ, zero, suc, ◌+◌, ◌<◌, ◌≤◌, true, false, cond, not, eqb, ◌⊎◌, List, [], ◌∷◌, ◌++◌, length, take, drop, Ok, Err, Result, sym, refl, ap, ◌∙◌, subst, inl, inr, ⊎_elim, arith, length-append, length-drop, length-take}
+use Rattle.std.proofs.Math.Dec.{eqb-suc-suc}
 use Rattle.std.proofs.Math.Seq.{drop-append_seam}
 use Rattle.std.specs.List.{prefix_len}
 use Rattle.std.proofs.lemmas.List.Sums.{prefix_len-le-length}
-use Rattle.std.proofs.lemmas.Bool.{cases_Bool, cond-true, cond-false, cond_both, eq-eqb, ne_eqb, eqb-true, eqb-false}
+use Rattle.std.proofs.lemmas.Bool.{cases_Bool, cond-true, cond-false, cond_both, ne_eqb}
 use Rattle.markup.specs.declared.fault.Fault.{Fault}
 use Rattle.markup.specs.declared.fault.Refusal.TheVariants.{Stray}
 use Rattle.markup.specs.Faults.{fault, and_then}
@@ -74,18 +75,13 @@ module _ (s : State) (p : ℕ) where
 abbrev pub Calm : State → ℕ → Type 0
 Calm s b = (eqb (length s.opens) 0 ≡ false) ⊎ (blank_byte b ≡ true)
 
-eqb_suc : (a b : ℕ) → eqb (suc a) (suc b) ≡ eqb a b
-eqb_suc a b =
-    ⊎_elim (λ (e : eqb a b ≡ true). eq-eqb _ _ (ap suc (eqb-true a b e)) ∙ sym e)
-    (λ (e : eqb a b ≡ false). let ne = eqb-false a b e in ne_eqb (suc a) (suc b) (λ q. ne (omega arith)) ∙ sym e) (cases_Bool (eqb a b))
-
 blanks_byte : (p b : ℕ) (xs : List ℕ) → blank_byte b ≡ true → blanks_only p (b ∷ xs) ≡ blanks_only (p + 1) xs
 blanks_byte p b xs h =
     let m : ℕ = prefix_len blank_byte xs in
     let z : prefix_len blank_byte (b ∷ xs) ≡ suc m = ap (λ x. cond x (1 + m) 0) h ∙ omega arith in
     let q : p + suc m ≡ p + 1 + m = omega arith in
     ap (λ k. cond (eqb k (suc (length xs))) (Ok tt) (Err (fault Stray (p + k)))) z
-    ∙ (λ j. cond (eqb_suc m (length xs) j) (Ok tt) (Err (fault Stray (q j))))
+    ∙ (λ j. cond (eqb-suc-suc m (length xs) j) (Ok tt) (Err (fault Stray (q j))))
 
 between_byte : (s : State) (p b : ℕ) (xs : List ℕ) → Calm s b → between s p (b ∷ xs) ≡ between s (p + 1) xs
 between_byte s p b xs (inl h) = cond-false _ _ _ h ∙ sym (cond-false _ _ _ h)

@@ -1,38 +1,23 @@
 -- Names by first use: where a name stands, and what one more name changes.
-use Rattle.std.proofs.Common.{◌≡◌, ℕ, suc, ◌+◌, ◌<◌, ◌≤◌, max, true, false, cond, not, eqb, ◌⊎◌, List, [], ◌∷◌, ◌++◌, length, get_or, sym, ap, ◌∙◌, subst, inl, inr, ⊎_elim, arith, length-append}
+use Rattle.std.proofs.Common.{◌≡◌, ℕ, ◌+◌, ◌<◌, ◌≤◌, max, true, false, not, eqb, ◌⊎◌, List, [], ◌∷◌, ◌++◌, length, get_or, sym, ap, ◌∙◌, subst, inl, inr, ⊎_elim, arith, length-append}
 use Rattle.std.proofs.Math.ListN.{get_or-append}
 use Rattle.std.proofs.Math.Seq.{get_or-append_seam}
 use Rattle.std.specs.List.{AllByRecursion as Every}
 use Rattle.std.specs.Str.{bytes_eq}
-use Rattle.std.proofs.ByRecursion.{All-append, All-get_or}
+use Rattle.std.proofs.ByRecursion.{All-append}
 use Rattle.std.proofs.lemmas.Slice.Eq.{bytes_eq-Decides}
-use Rattle.std.proofs.lemmas.List.Sums.{prefix_len-le-length, position_or_len_is}
+use Rattle.std.proofs.lemmas.List.Sums.{prefix_len-le-length, position_or_len_is, passes_at_first, fails_before_first}
 use Rattle.std.proofs.lemmas.Bool.{cases_Bool, cases_lt, cond-true, cond-false, eqb-true, eqb-false, true≢false}
 use Rattle.book.specs.Document.{position, intern}
 use Rattle.book.specs.Reading.{Different}
 
 -- Where a name stands.
-module _ (name : List ℕ) where
-  -- a name that is there stands at its place, and no other equals one that is not
-  Here : List (List ℕ) → Type 0
-  Here names = (position names name < length names → get_or names (position names name) [] ≡ name) × (position names name ≡ length names → Every (λ n. n ≡ name → ⊥) names)
+module _ (name : List ℕ) (names : List (List ℕ)) where
+  found : position names name < length names → get_or names (position names name) [] ≡ name
+  found h = (bytes_eq-Decides _ name).0 (passes_at_first (λ n. bytes_eq n name) names [] h)
 
-  here : (names : List (List ℕ)) → Here names
-  unfolding Here
-  here [] = (λ h. absurd (omega arith), λ _. tt)
-  here (n ∷ names) =
-      let k : ℕ = position names name in
-      let ih = here names in
-      ⊎_elim
-      (λ (e : bytes_eq n name ≡ true).
-      let z : position (n ∷ names) name ≡ 0 = ap (λ x. cond (not x) (1 + k) 0) e in
-      (λ _. ap (λ i. get_or (n ∷ names) i []) z ∙ (bytes_eq-Decides n name).0 e, λ h. absurd (omega arith)))
-      (λ (e : bytes_eq n name ≡ false).
-      let z : position (n ∷ names) name ≡ suc k = ap (λ x. cond (not x) (1 + k) 0) e ∙ omega arith in (
-        λ h. ap (λ i. get_or (n ∷ names) i []) z ∙ ih.0 (omega arith),
-        λ h. (λ same. true≢false (sym ((bytes_eq-Decides n name).1 same) ∙ e), ih.1 (omega arith)),
-      ))
-      (cases_Bool (bytes_eq n name))
+  not_before : (k : ℕ) → k < position names name → get_or names k [] ≡ name → ⊥
+  not_before k h e = true≢false (sym ((bytes_eq-Decides (get_or names k []) name).1 e) ∙ fails_before_first (λ n. bytes_eq n name) names k [] h)
 
 -- One more name.
 module _ (names : List (List ℕ)) (name : List ℕ) where
@@ -62,9 +47,8 @@ module _ (names : List (List ℕ)) (name : List ℕ) where
 
   -- its number leads to it
   pub intern_at : get_or (intern names name) (position names name) [] ≡ name
-  unfolding Here
   intern_at =
-      ⊎_elim (λ q. ap (λ l. get_or l (position names name) []) q.1 ∙ (here name names).0 q.0)
+      ⊎_elim (λ q. ap (λ l. get_or l (position names name) []) q.1 ∙ found name names q.0)
       (λ q. (λ i. get_or (q.1 i) (q.0 i) []) ∙ get_or-append_seam names name [] [])
       interned
 
@@ -78,7 +62,6 @@ module _ (names : List (List ℕ)) (name : List ℕ) where
       ⊎_elim (λ q. subst (Every P) (sym q.1) h) (λ q. subst (Every P) (sym q.1) (All-append P names (name ∷ []) h (k, tt))) interned
 
   pub intern_different : Different names → Different (intern names name)
-  unfolding Here
   intern_different d =
       ⊎_elim (λ q. subst Different (sym q.1) d)
       (λ q. subst Different (sym q.1) (λ j k l m e.
@@ -88,7 +71,7 @@ module _ (names : List (List ℕ)) (name : List ℕ) where
       (λ (h : k < length names). d j k l h (sym (old j (omega arith)) ∙ e ∙ old k h))
       (λ (h : length names ≤ k).
       let last : length names ≡ k = omega arith in
-      All-get_or (λ n. n ≡ name → ⊥) names j [] (omega arith) ((here name names).1 q.0)
+      not_before name names j (omega (arith, q.0))
       (sym (old j (omega arith)) ∙ e ∙ ap (λ i. get_or (names ++ name ∷ []) i []) (sym last) ∙ get_or-append_seam names name [] []))
       (cases_lt k (length names))))
       interned

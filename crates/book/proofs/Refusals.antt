@@ -14,18 +14,13 @@ use Rattle.lexer.specs.Item.{Item, Item.start, Item.end, Item.empty, Item.text, 
 use Rattle.lexer.specs.BadTag.{BadTag}
 use Rattle.lexer.proofs.Judging.{bad_tag, bad_refused}
 use Rattle.book.specs.Document.{position, intern}
-use Rattle.book.specs.Reading.{OpenElement, State, initial, allowed, enter, ended, opened, leaf, close, closed, finished, read_book}
+use Rattle.book.specs.Reading.{OpenElement, State, initial, allowed, entered, ended, opened, leaf, close, closed, finished, read_book}
 use Rattle.book.specs.Refusing.{History, History.begin, History.byte, History.bare, History.opening, History.closing, written, opens_of, count_of, names_of, Innermost, Second, Deep, Many, Fit, Allowed, Unfit, Unfit.second, Unfit.deep, Unfit.many, Wrong, Wrong.outside, Wrong.bytes, Wrong.astray, Wrong.unfit, Wrong.missing, Wrong.unclosed, Stops, Refuses}
 use Rattle.book.specs.Promises.{RefusedExactly}
-use Rattle.book.proofs.Entering.{enter_by}
+use Rattle.book.proofs.Entering.{begun, enter_by}
+use Rattle.book.proofs.Results.{err_same, ok_or_err}
 use Rattle.book.proofs.Runs.{book_is, too_long}
 use Rattle.book.proofs.Machine.{runs, Calm, runs_byte, runs_stray, runs_fault, runs_tag, FrontTag, front}
-
-err_same : {X : Type 0} (f g : Fault) → ◌≡◌ {A = Result X Fault} (Err f) (Err g) → f ≡ g
-err_same f g e = cc
-
-ok_no_err : {X : Type 0} (x : X) (f : Fault) → ◌≡◌ {A = Result X Fault} (Ok x) (Err f) → ⊥
-ok_no_err x f e = let z : ◌≡◌ {A = ℕ} 0 1 = cc in omega arith
 
 abbrev spot : OpenElement → ℕ × List ℕ
 spot o = (o.element.start, o.name)
@@ -39,19 +34,13 @@ record Matches (h : History) (s : State) : Type 0 where
 depth : (h : History) (s : State) → Matches h s → length s.opens ≡ length (opens_of h)
 depth h s m = sym (length-map s.opens spot) ∙ ap (λ l. length l) m.opens
 
-abbrev begun : State → ℕ → List ℕ → Element
-begun s p name = record { start = p; «end» = 0; level = length s.opens; name = position s.names name }
-
-abbrev entering : State → ℕ → List ℕ → Result Element Fault
-entering s p name = enter (length s.opens) (length s.elements) s.names p name
-
 -- The tag of an element: it fits, or is refused by the first rule that it breaks.
 module _ (h : History) (s : State) (m : Matches h s) (name : List ℕ) (l : LawfulName name) where
   p : ℕ
   p = length (written h)
 
   Entering : Type 0
-  Entering = ((entering s (length (written h)) name ≡ Ok (begun s (length (written h)) name)) × Fit h name) ⊎ ((f : Fault) × (entering s (length (written h)) name ≡ Err f) × Unfit h name f)
+  Entering = ((entered s (length (written h)) name ≡ Ok (begun s (length (written h)) name)) × Fit h name) ⊎ ((f : Fault) × (entered s (length (written h)) name ≡ Err f) × Unfit h name f)
 
   many_test : (leb 65535 (length s.elements) || leb 1024 (position s.names name)) ≡ true → Many h name
   many_test e =
@@ -81,7 +70,7 @@ module _ (h : History) (s : State) (m : Matches h s) (name : List ℕ) (l : Lawf
       true≢false (sym (and_from _ _ a (not_from_false _ b)) ∙ e)
 
   by : {r : Result (Unit {0}) Fault} → allowed (length s.opens) (length s.elements) (position s.names name) (length (written h)) ≡ r
-      → entering s (length (written h)) name ≡ and_then r (λ _. Ok (begun s (length (written h)) name))
+      → entered s (length (written h)) name ≡ and_then r (λ _. Ok (begun s (length (written h)) name))
   by {r} e = enter_by (length s.opens) (length s.elements) (length (written h)) s.names name r e
 
   entering_cases : Entering
@@ -148,7 +137,7 @@ closing_cases h es ns (o ∷ os) name m =
 
 -- The end of the text.
 closed_wrong : (h : History) (s : State) (os : List OpenElement) (b : Fault) → map spot os ≡ opens_of h → 0 < count_of h → closed s os ≡ Err b → Wrong h [] b
-closed_wrong h s [] b m c e = absurd (ok_no_err _ b e)
+closed_wrong h s [] b m c e = absurd (ok_or_err _ b (sym e))
 closed_wrong h s (o ∷ os) b m c e = unclosed (spot o) (map spot os) refl c (sym m) (sym (err_same _ b e))
 
 module _ (whole : List ℕ) (f : Fault) where

@@ -1,13 +1,9 @@
 -- What is granted is a book text within the limits, with its elements.
-use Rattle.std.proofs.Common.{◌≡◌, ℕ, zero, suc, ◌+◌, ◌<◌, ◌≤◌, true, false, not, ◌&&◌, eqb, leb, ◌⊎◌, List, [], ◌∷◌, ◌++◌, length, set, Ok, Err, Result, sym, refl, ap, ◌∙◌, subst, inl, inr, ⊎_elim, true≢false, append_assoc, append-nil, arith, length-append, length-set}
+use Rattle.std.proofs.Common.{◌≡◌, ℕ, zero, suc, ◌+◌, ◌<◌, ◌≤◌, true, false, not, ◌&&◌, eqb, leb, ◌⊎◌, List, [], ◌∷◌, ◌++◌, length, set, Ok, sym, refl, ap, ◌∙◌, subst, inl, inr, ⊎_elim, true≢false, append_assoc, append-nil, arith, length-append, length-set}
 use Rattle.std.proofs.Math.Seq.{set-append_seam, set-append_left}
-use Rattle.std.specs.List.{AllByRecursion as Every}
 use Rattle.std.specs.Str.{bytes_eq}
-use Rattle.std.proofs.ByRecursion.{All-weaker}
 use Rattle.std.proofs.lemmas.Slice.Eq.{bytes_eq-Decides}
 use Rattle.std.proofs.lemmas.Bool.{cases_Bool, cond-true, cond-false, eqb-true, eqb-false, leb-true}
-use Rattle.markup.specs.declared.fault.Fault.{Fault}
-use Rattle.markup.specs.Faults.{and_then}
 use Rattle.markup.specs.Name.{LawfulName}
 use Rattle.markup.proofs.Granted.{Granted, grant, chain}
 use Rattle.tree.specs.declared.element.Element.{Element}
@@ -16,20 +12,13 @@ use Rattle.lexer.specs.Bytes.{blank_byte, text_byte}
 use Rattle.lexer.specs.Item.{Item, Item.start, Item.end, Item.empty, Item.text, Tag, spelling}
 use Rattle.book.specs.Document.{Content, Content.none, Content.byte, Content.bare, Content.full, spell, Lawful, Blank, Single, Node, nodes_at, Document, position, intern, numbered, named, indexed, Shallow, Within}
 use Rattle.book.specs.Reading.{OpenElement, State, initial, allowed, enter, ended, opened, leaf, close, closed, step, tree_of_state, finished, read_book}
+use Rattle.book.proofs.Consistency.{Below, below_more}
+use Rattle.book.proofs.Results.{ok_or_err, then_ok}
 use Rattle.book.proofs.Entering.{Allowed, allowed_granted}
 use Rattle.book.proofs.Machine.{runs, Calm, runs_byte, runs_stray, runs_fault, runs_tag, FrontTag, front}
 use Rattle.book.proofs.Runs.{book_is, too_long}
 use Rattle.book.proofs.Naming.{interned}
 use Rattle.book.proofs.Numbering.{numbered_length}
-
--- Results.
-
-pub ok_or_err : {X : Type 0} (x : X) (f : Fault) → ◌≡◌ {A = Result X Fault} (Err f) (Ok x) → ⊥
-ok_or_err x f e = let z : ◌≡◌ {A = ℕ} 0 1 = cc in omega arith
-
-pub then_ok : {X Y : Type 0} (r : Result X Fault) (k : X → Result Y Fault) (y : Y) → and_then r k ≡ Ok y → (x : X) × (r ≡ Ok x) × (k x ≡ Ok y)
-then_ok (Ok x) k y e = (x, refl, e)
-then_ok (Err f) k y e = absurd (ok_or_err y f e)
 
 -- What follows when these elements are open: a row up to each end tag, and the row outside.
 
@@ -93,13 +82,6 @@ byte_prepends b p level = record { text = λ c. refl; nodes = λ c. refl }
 
 bare_prepends : (name : List ℕ) (p level : ℕ) → Prepends (bare name) p level (spelling (empty name)) (record { start = p; end = p + 1 + length name; level = level; name = name } ∷ [])
 bare_prepends name p level = record { text = λ c. refl; nodes = λ c. refl }
-
--- all open elements are among the first n
-abbrev Below : ℕ → List OpenElement → Type 0
-Below n os = Every (λ (o : OpenElement). o.number < n) os
-
-below_more : (n m : ℕ) (os : List OpenElement) → n ≤ m → Below n os → Below m os
-below_more n m os h b = All-weaker (λ (o : OpenElement). o.number < n) (λ (o : OpenElement). o.number < m) (λ o l. omega arith) os b
 
 fill_push : (es : List Element) (y : Element) (os : List OpenElement) (p : ℕ) (t : Tail os) → Below (length es) os → fill (es ++ y ∷ []) os p t ≡ fill es os p t ++ y ∷ []
 fill_push es y [] p t b = refl

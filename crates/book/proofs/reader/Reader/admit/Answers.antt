@@ -43,7 +43,7 @@ returns-in_err-check_element-clause-element c =
 pub invariant_of-self-2 : goal.invariant_of-self-2
 invariant_of-self-2 c =
     let s = c.args.self.now in
-    subst Consistent (sym (after c)) (named_consistent s (subst Consistent c.self.view_is c.self.invariant) 0 c.args.name.now)
+    subst Consistent (sym (after c)) (named_consistent s (subst Consistent c.self.view_is c.self.invariant) c.args.name.now)
 
 pub returns-clause-element : goal.returns-clause-element
 returns-clause-element c =

@@ -1,8 +1,6 @@
-use Rattle.std.proofs.Common.{◌<◌, [], ◌∷◌, map, reverse, length, sym, ap, ◌∙◌, subst, arith, length-append}
-use Rattle.std.specs.List.{AllByRecursion as Every}
-use Rattle.book.specs.Reading.{OpenElement}
+use Rattle.std.proofs.Common.{[], ◌∷◌, map, reverse, length, sym, ap, ◌∙◌, subst, arith, length-append}
 use Rattle.book.specs.Views.{open_of}
-use Rattle.book.proofs.Consistency.{among_more}
+use Rattle.book.proofs.Consistency.{Below, below_more}
 use Rattle.book.proofs.Steps.{push_open}
 use Rattle.book.proofs.reader.Reader.start.Goals as goal
 
@@ -13,6 +11,6 @@ invariant_of-self-2 c =
     let top = ap (λ os. map open_of (reverse os)) c.in_ok-push-2.ensures.items ∙ push_open c.self.inside.opens.items _ in
     record {
       different = c.self.invariant.different;
-      among = subst (Every (λ (o : OpenElement). o.number < length c.push.new.self.items)) (sym top)
-          (omega (arith, c.self.inside.elements.ok.0), among_more (length es) _ _ (omega arith) c.self.invariant.among);
+      among = subst (Below (length c.push.new.self.items)) (sym top)
+          (omega (arith, c.self.inside.elements.ok.0), below_more (length es) _ _ (omega arith) c.self.invariant.among);
     }
