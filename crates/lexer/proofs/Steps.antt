@@ -35,14 +35,12 @@ module _ (bs : List ℕ) (p : ℕ) where
     front : ItemFront (drop p bs) (item_of t)
     front = some_front p (drop p bs) (item_of t) (subst (λ l. 0 < length l) is h) found.0
 
-    pub next_within : p + length (whole_of t).bytes.now ≤ length bs
-    next_within =
-        omega (arith, h, ap (λ l. length l) is, ap (λ l. length l) f.1.whole, ap (λ l. length l) front.spelled, length-append (spelling (item_of t)) front.rest, length-drop p bs)
-
-    pub next_parts : HandsOut bs p t
-    next_parts =
-        record {
-          written = found.1;
-          whole = cut 0 (whole_of t) front.rest (front.spelled ∙ ap (λ l. l ++ front.rest) (sym f.1.whole)) (found.1.place ∙ omega arith);
-          name = name_cut t front found.1;
-        }
+    pub next_found : (p + length (whole_of t).bytes.now ≤ length bs) × HandsOut bs p t
+    next_found = (
+      omega (arith, h, ap (λ l. length l) is, ap (λ l. length l) f.1.whole, ap (λ l. length l) front.spelled, length-append (spelling (item_of t)) front.rest, length-drop p bs),
+      record {
+        written = found.1;
+        whole = cut 0 (whole_of t) front.rest (front.spelled ∙ ap (λ l. l ++ front.rest) (sym f.1.whole)) (found.1.place ∙ omega arith);
+        name = name_cut t front found.1;
+      },
+    )

@@ -11,7 +11,7 @@ use crate::token::{Part, Tag, Token};
 use markup::scan::NameBytes;
 use markup::{Fault, Refusal, name, scan};
 
-// What is left of a book text: the place of its first byte, and its bytes.
+// What is left of a book text: the place of its first byte, and its bytes. Its end is a place too.
 #[derive(Clone, Copy)]
 struct Rest<'t> {
     place: usize,
@@ -61,7 +61,8 @@ impl<'t> Rest<'t> {
 
     // The tag of `size` bytes at the front. Its name has `len` bytes, behind the first `skip`.
     fn tag(&self, skip: usize, len: usize, size: usize) -> Tag<'t>
-        requires { (skip + len ≤ size) × (size ≤ length self.now.bytes.now) }
+        requires name { skip + len ≤ size }
+        requires whole { size ≤ length self.now.bytes.now }
         ensures whole { (result.whole.place ≡ self.now.place) × (result.whole.bytes.now ≡ take size self.now.bytes.now) }
         ensures name { (result.name.place ≡ self.now.place + skip) × (result.name.bytes.now ≡ take len (drop skip self.now.bytes.now)) }
     {
