@@ -28,8 +28,11 @@ length-names_of bs = length-map-range_with_len (name_text bs) 0 (name_count bs)
 pub get_or-names_of : (bs : List ℕ) (j : ℕ) → j < name_count bs → get_or (names_of bs) j [] ≡ name_text bs j
 get_or-names_of bs j h = get_or-map-range_with_len (name_text bs) 0 (name_count bs) j j [] h (omega arith)
 
--- The bytes, from the front.
-module _ (bs : List ℕ) (bytes : Bytes bs) (law : LawfulSheet bs) where
+-- The bytes, from the front, where the sheet shows these elements and names.
+module _ (bs : List ℕ) (bytes : Bytes bs) (law : LawfulSheet bs)
+  (els : List Element) (els_length : length els ≡ element_count bs) (els_at : (k : ℕ) → k < element_count bs → get_or els k blank ≡ element_at bs k)
+  (nms : List (List ℕ)) (nms_length : length nms ≡ name_count bs) (nms_at : (j : ℕ) → j < name_count bs → get_or nms j [] ≡ name_text bs j)
+  where
   size : length bs ≡ bytes_offset bs + byte_count bs
   size = law.size
 
@@ -50,28 +53,6 @@ module _ (bs : List ℕ) (bytes : Bytes bs) (law : LawfulSheet bs) where
       (join _ _ _ _ _ (word (36 + 16 * k) (40 + 16 * k) (omega arith) (omega arith))
       (join _ _ _ _ _ (half (40 + 16 * k) (42 + 16 * k) (omega arith) (omega arith))
       (join _ _ _ _ _ (half (42 + 16 * k) (44 + 16 * k) (omega arith) (omega arith)) (word (44 + 16 * k) (32 + 16 * (k + 1)) (omega arith) (omega arith)))))
-
-  els : List Element
-  els = elements_of bs
-
-  nms : List (List ℕ)
-  nms = names_of bs
-
-  els_length : length els ≡ element_count bs
-  unfolding els
-  els_length = length-elements_of bs
-
-  els_at : (k : ℕ) → k < element_count bs → get_or els k blank ≡ element_at bs k
-  unfolding els
-  els_at = get_or-elements_of bs
-
-  nms_length : length nms ≡ name_count bs
-  unfolding nms
-  nms_length = length-names_of bs
-
-  nms_at : (j : ℕ) → j < name_count bs → get_or nms j [] ≡ name_text bs j
-  unfolding nms
-  nms_at = get_or-names_of bs
 
   -- what is sought among the elements is what the sheet tells
   sought : (x m i : ℕ) → m ≤ element_count bs → FirstNamed bs x m i → i ≡ seek x (drop m els) m
@@ -196,8 +177,8 @@ module _ (bs : List ℕ) (bytes : Bytes bs) (law : LawfulSheet bs) where
       ∙ ap (λ (x : List ℕ). header_bytes (length els) (length nms) (length (joint nms)) ++ x) (a ∙ ap (λ (x : List ℕ). element_table els 0 ++ x) b'))
 
 pub sheet_of_its_tree : SheetOfItsTree
-unfolding els nms
-sheet_of_its_tree bs bytes law = one_by bs bytes law
+sheet_of_its_tree bs bytes law =
+    one_by bs bytes law (elements_of bs) (length-elements_of bs) (get_or-elements_of bs) (names_of bs) (length-names_of bs) (get_or-names_of bs)
 
 pub one_sheet_for_a_tree : OneSheetForATree
 one_sheet_for_a_tree xs ys p q a b e = sheet_of_its_tree xs p a ∙ (ap sheet_of e ∙ sym (sheet_of_its_tree ys q b))
