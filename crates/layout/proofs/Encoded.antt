@@ -1,8 +1,7 @@
 -- The sheet of a lawful tree is lawful and shows that tree.
-use Rattle.std.proofs.Common.{◌≡◌, ℕ, zero, suc, ◌+◌, ◌<◌, ◌≤◌, max, List, [], length, get_or, take, drop, sym, refl, ap, ◌∙◌, subst, ⊎_elim, arith}
+use Rattle.std.proofs.Common.{◌≡◌, ℕ, zero, suc, ◌+◌, ◌<◌, ◌≤◌, max, List, [], length, get_or, take, drop, sym, refl, ap, ◌∙◌, subst, arith}
 use Rattle.std.proofs.lemmas.List.{length-map, get_or-map, take_all}
 use Rattle.std.proofs.lemmas.List.FromFn.{fill_by_all}
-use Rattle.std.proofs.lemmas.Bool.{cases_lt}
 use Rattle.markup.specs.Name.{LawfulName}
 use Rattle.tree.specs.declared.element.Element.{Element}
 use Rattle.tree.specs.Region.{Region, Fits}
@@ -102,10 +101,7 @@ module _ (es : List Element) (ts : List (List ℕ)) (law : LawfulTree (record { 
   has j h =
       let f = first_from j 0 (omega arith) in
       let r = used_found (name_in es) (length es) (used (encoded es ts)) used_by fresh.0 (length es) j (omega arith) (omega (arith, fresh.1)) in
-      ⊎_elim (λ (a : seek j es 0 < element_count (encoded es ts)). a)
-      (λ (a : element_count (encoded es ts) ≤ seek j es 0).
-      absurd (f.before r.0 (omega arith) (omega (arith, r.1, count)) (name_of r.0 r.1 ∙ r.2)))
-      (cases_lt (seek j es 0) (element_count (encoded es ts)))
+      grind (arith, λ (a : element_count (encoded es ts) ≤ seek j es 0). f.before r.0 (omega arith) (omega (arith, r.1, count)) (name_of r.0 r.1 ∙ r.2))
 
   name : (j : ℕ) → j < length ts → RightName (encoded es ts) j
   name j h =

@@ -1,7 +1,7 @@
 -- The first with a name, from some number on.
-use Rattle.std.proofs.Common.{◌≡◌, ℕ, zero, suc, ◌+◌, ◌-◌, ◌<◌, ◌≤◌, eqb, List, length, get_or, drop, sym, refl, ap, ◌∙◌, subst, ⊎_elim, arith}
+use Rattle.std.proofs.Common.{◌≡◌, ℕ, zero, suc, ◌+◌, ◌-◌, ◌<◌, ◌≤◌, eqb, List, length, get_or, drop, sym, refl, ◌∙◌, subst, arith}
 use Rattle.std.proofs.lemmas.List.{drop_all}
-use Rattle.std.proofs.lemmas.Bool.{cases_eq, eqb-true, eqb-false, cond_both}
+use Rattle.std.proofs.lemmas.Bool.{eqb-true, eqb-false, cond_both}
 use Rattle.tree.specs.declared.element.Element.{Element}
 use Rattle.layout.specs.Lawful.{FirstFrom}
 use Rattle.layout.specs.Encoding.{blank, seek}
@@ -38,8 +38,7 @@ pub first_no : (f : ℕ → ℕ) (n x m i : ℕ) → (f m ≡ x → ⊥) → Fir
 first_no f n x m i ne a = record {
   from = omega (arith, a.from);
   within = a.within;
-  before = λ j p q r.
-      ⊎_elim (λ (e : j ≡ m). ne (ap f (sym e) ∙ r)) (λ (d : j ≡ m → ⊥). a.before j (omega arith) q r) (cases_eq j m);
+  before = λ j p q r. grind (arith, ne, λ (u : m + 1 ≤ j). a.before j u q r);
   here = a.here;
 }
 
