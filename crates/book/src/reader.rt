@@ -15,9 +15,10 @@ use markup::{Error, Fault, Refusal, scan};
 use std::alloc::Global;
 use std::marker::Model;
 use tree::Element;
+
+// The limits of a book text. A sheet shares the first three.
 pub use tree::limits::{MOST_ELEMENTS, MOST_LEVELS as MOST_OPEN, MOST_NAMES};
 
-// The longest book text.
 pub const MOST_BYTES: usize = 16_777_216;
 
 // Whether a text is not too long.
