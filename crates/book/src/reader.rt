@@ -61,6 +61,7 @@ struct Reader<'t> {
     opens: Vec<Open<'t>>,
 }
 
+// In a clause a reader is its state, which is always consistent.
 impl<'t> Model for Reader<'t> {
     ghost use Rattle.book.specs.Reading.{State, Consistent};
 
@@ -87,7 +88,7 @@ impl<'t> Reader<'t> {
     // Whether a further element may begin at `place`; its name has this number.
     fn check_element(&self, number: usize, place: u32) -> Result<(), Fault>
         ensures value { result ≡ allowed (length self.now.opens) (length self.now.elements) number place }
-        ensures within { OnOk result ((length self.now.opens < 64) × (length self.now.elements < 65535) × (number < 1024)) }
+        ensures within { OnOk result ((length self.now.opens < 64) × (number < 1024)) }
     {
         let place = place as usize;
         if self.opens.is_empty() && !self.elements.is_empty() {
