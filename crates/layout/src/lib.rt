@@ -3,6 +3,8 @@
 #![tactic(auto)]
 
 pub mod laws;
+pub mod limits;
 pub mod record;
 
+pub use limits::LONGEST_SHEET;
 pub use record::NameRecord;
