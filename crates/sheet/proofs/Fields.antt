@@ -1,122 +1,144 @@
 -- Which elements and names the fields of a sheet can hold.
-use Rattle.std.proofs.Common.{◌≡◌, ℕ, zero, suc, ◌+◌, ◌*◌, ◌<◌, ◌≤◌, Bool, true, false, cond, ltb, leb, List, [], ◌∷◌, length, get_or, drop, Ok, Err, Result, sym, refl, ap, ◌∙◌, arith}
-use Rattle.std.proofs.lemmas.List.{at_drop_more}
-use Rattle.std.proofs.lemmas.Bool.{lt-ltb, le-ltb, ltb-false, leb-false, le-leb, lt-leb, cond-true, cond-false}
+use Rattle.std.proofs.Common.{◌≡◌, ℕ, zero, suc, ◌+◌, ◌*◌, ◌<◌, ◌≤◌, Bool, true, false, cond, ltb, leb, List, [], ◌∷◌, ◌++◌, length, All, sum_by, flat_map, get_or, Option, Some, None, Ok, Err, Result, Bor, sym, refl, ap, ◌∙◌, mul-add, arith}
+use Rattle.std.proofs.lemmas.Bool.{lt-ltb, le-ltb, ltb-false, leb-false, lt-leb, cond-true, cond-false}
+use Rattle.std.proofs.lemmas.Iterator.Adapters.{position_from-zero}
+use Rattle.std.proofs.lemmas.List.{length-map}
+use Rattle.std.proofs.lemmas.List.Concat.{length-flat_map}
+use Rattle.std.proofs.lemmas.List.Sums.{sum_by-le}
+use Rattle.std.specs.List.{position, position_from}
 use Rattle.markup.specs.declared.fault.Fault.{Fault}
-use Rattle.markup.specs.declared.fault.Refusal.TheVariants.{SheetWontFit, HeaderField, ElementRecord, NameRecord}
+use Rattle.markup.specs.declared.fault.Refusal.{Refusal}
+use Rattle.markup.specs.declared.fault.Refusal.TheVariants.{HeaderField, ElementRecord, NameRecord}
 use Rattle.markup.specs.Faults.{fault, and_then}
 use Rattle.tree.specs.declared.element.Element.{Element}
-use Rattle.layout.specs.Encoding.{blank, encoded}
-use Rattle.sheet.specs.Writing.{numbers_fit, names_fit, fields_fit, encodes}
+use Rattle.layout.specs.Encoding.{blank, joint}
+use Rattle.sheet.specs.Writing.{texts, each_fits, numbers_fit, names_fit, fields_fit}
 
 -- where a test refuses, it was false of what is granted
 granted : (b : Bool) (r : Result (Unit {0}) Fault) (f : Fault) → cond b (Err f) r ≡ Ok tt → (b ≡ false) × (r ≡ Ok tt)
 granted true r f e = let z : ◌≡◌ {A = ℕ} 0 1 = cc in absurd (omega arith)
 granted false r f e = (refl, e)
 
-both : (r : Result (Unit {0}) Fault) (k : Result (Unit {0}) Fault) → and_then r (λ _. k) ≡ Ok tt → (r ≡ Ok tt) × (k ≡ Ok tt)
+both : (r k : Result (Unit {0}) Fault) → and_then r (λ _. k) ≡ Ok tt → (r ≡ Ok tt) × (k ≡ Ok tt)
 both (Ok tt) k e = (refl, e)
 both (Err f) k e = let z : ◌≡◌ {A = ℕ} 0 1 = cc in absurd (omega arith)
 
-numbers_below : (n : ℕ) (es : List Element) (o : ℕ) → numbers_fit n es o ≡ Ok tt → (k : ℕ) → k < length es → (get_or es k blank).name < n
-numbers_below n [] o h k l = absurd (omega arith)
-numbers_below n (e ∷ es) o h zero l = leb-false _ _ (granted _ _ _ h).0
-numbers_below n (e ∷ es) o h (suc k) l = numbers_below n es (o + 16) (granted _ _ _ h).1 k (omega arith)
+module _ {A : Type 0} (p : A → Bool) (r : Refusal) (size : ℕ) where
+  -- all fit exactly where none is too large
+  none_too_large : (xs : List A) (o : ℕ) → each_fits p r size xs o ≡ Ok tt → (d : A) (k : ℕ) → k < length xs → p (get_or xs k d) ≡ false
+  none_too_large [] o h d k l = absurd (omega arith)
+  none_too_large (x ∷ xs) o h d zero l = (granted _ _ _ h).0
+  none_too_large (x ∷ xs) o h d (suc k) l = none_too_large xs (o + size) (granted _ _ _ h).1 d k (omega arith)
 
-names_short : (ts : List (List ℕ)) (o : ℕ) → names_fit ts o ≡ Ok tt → (j : ℕ) → j < length ts → length (get_or ts j []) ≤ 32
-names_short [] o h j l = absurd (omega arith)
-names_short (t ∷ ts) o h zero l = ltb-false _ _ (granted _ _ _ h).0
-names_short (t ∷ ts) o h (suc j) l = names_short ts (o + 12) (granted _ _ _ h).1 j (omega arith)
+  all_fit : (xs : List A) (o : ℕ) (d : A) → ((k : ℕ) → k < length xs → p (get_or xs k d) ≡ false) → each_fits p r size xs o ≡ Ok tt
+  all_fit [] o d h = refl
+  all_fit (x ∷ xs) o d h = cond-false _ _ _ (h 0 (omega arith)) ∙ all_fit xs (o + size) d (λ k l. h (suc k) (omega arith))
+
+  -- the answer, where the first that is too large is the k-th
+  refused_at : ℕ → Option ℕ → Result (Unit {0}) Fault
+  refused_at o None = Ok tt
+  refused_at o (Some k) = Err (fault r (o + size * k))
+
+  fit_from : (xs : List A) (o i : ℕ) → each_fits p r size xs (o + size * i) ≡ refused_at o (position_from p i xs)
+  unfolding refused_at
+  fit_from [] o i = refl
+  fit_from (x ∷ xs) o i =
+      let next : o + size * i + size ≡ o + size * (i + 1) = omega (arith, mul-add size i 1) in
+      let P : Bool → Type 0 = λ b. cond b (Err (fault r (o + size * i))) (each_fits p r size xs (o + size * i + size)) ≡ refused_at o (cond b (Some i) (position_from p (i + 1) xs)) in
+      elim (p x) as P [ true ↦ refl | false ↦ ap (each_fits p r size xs) next ∙ fit_from xs o (i + 1) ]
+
+  fit_by : (xs : List A) (o : ℕ) → each_fits p r size xs o ≡ refused_at o (position p xs)
+  fit_by xs o = let z : o ≡ o + size * 0 = omega arith in ap (each_fits p r size xs) z ∙ (fit_from xs o 0 ∙ ap (refused_at o) (sym (position_from-zero p xs)))
+
+-- Lent names are judged by their bytes.
+
+abbrev pub long : Bor (List ℕ) → Bool
+long x = ltb 32 (length x.now)
+
+pub length-texts : (xs : List (Bor (List ℕ))) → length (texts xs) ≡ length xs
+length-texts xs = length-map xs (λ x. x.now)
+
+lent_fit : (xs : List (Bor (List ℕ))) (o : ℕ) → names_fit (texts xs) o ≡ each_fits long NameRecord 12 xs o
+lent_fit [] o = refl
+lent_fit (x ∷ xs) o = ap (cond (long x) (Err (fault NameRecord o))) (lent_fit xs (o + 12))
 
 -- What is granted.
 
-pub record Roomy (es : List Element) (ts : List (List ℕ)) : Type 0 where
-  pub elements : length es ≤ 65535
-  pub names : length ts ≤ 1024
-  pub named : (k : ℕ) → k < length es → (get_or es k blank).name < length ts
-  pub short : (j : ℕ) → j < length ts → length (get_or ts j []) ≤ 32
+abbrev pub misnumbered : ℕ → Element → Bool
+misnumbered n e = leb n e.name
 
-pub roomy : (es : List Element) (ts : List (List ℕ)) → fields_fit es ts ≡ Ok tt → Roomy es ts
-roomy es ts h =
+pub record Roomy (es : List Element) (xs : List (Bor (List ℕ))) : Type 0 where
+  pub few_elements : length es ≤ 65535
+  pub few_names : length xs ≤ 1024
+  pub numbered : All (λ e. e.name < length xs) es
+  pub short : All (λ x. length x.now ≤ 32) xs
+
+pub roomy : (es : List Element) (xs : List (Bor (List ℕ))) → fields_fit es (texts xs) ≡ Ok tt → Roomy es xs
+roomy es xs h =
+    let n = length-texts xs in
     let a = granted _ _ _ h in
     let b = granted _ _ _ a.1 in
-    let c = both _ _ b.1 in
+    let c = both (numbers_fit (length (texts xs)) es 32) (names_fit (texts xs) (32 + 16 * length es)) b.1 in
+    let few : length (texts xs) ≤ 1024 = ltb-false _ _ b.0 in
     record {
-      elements = ltb-false _ _ a.0;
-      names = ltb-false _ _ b.0;
-      named = numbers_below (length ts) es 32 c.0;
-      short = names_short ts (32 + 16 * length es) c.1;
+      few_elements = ltb-false _ _ a.0;
+      few_names = omega arith;
+      numbered = λ k d l. leb-false (length xs) _ (none_too_large (misnumbered (length xs)) ElementRecord 16 es 32 (rw n at c.0) d k l);
+      short = λ k d l. ltb-false _ _ (none_too_large long NameRecord 12 xs (32 + 16 * length es) (sym (lent_fit xs (32 + 16 * length es)) ∙ c.1) d k l);
     }
 
 -- What is roomy is granted.
+pub fields_fit_lem : (es : List Element) (ts : List (List ℕ)) → length es ≤ 65535 → length ts ≤ 1024 → ((k : ℕ) → k < length es → (get_or es k blank).name < length ts)
+    → ((j : ℕ) → j < length ts → length (get_or ts j []) ≤ 32) → fields_fit es ts ≡ Ok tt
+fields_fit_lem es ts few few_names named short =
+    let a = all_fit (misnumbered (length ts)) ElementRecord 16 es 32 blank (λ k l. lt-leb _ _ (named k l)) in
+    let b = all_fit (λ t. ltb 32 (length t)) NameRecord 12 ts (32 + 16 * length es) [] (λ j l. le-ltb _ _ (short j l)) in
+    cond-false _ _ _ (le-ltb _ _ few) ∙ (cond-false _ _ _ (le-ltb _ _ few_names) ∙ rw (a, b) refl)
 
-numbers_fit_lem : (n : ℕ) (es : List Element) (o : ℕ) → ((k : ℕ) → k < length es → (get_or es k blank).name < n) → numbers_fit n es o ≡ Ok tt
-numbers_fit_lem n [] o h = refl
-numbers_fit_lem n (e ∷ es) o h =
-    cond-false _ _ _ (lt-leb _ _ (h 0 (omega arith))) ∙ numbers_fit_lem n es (o + 16) (λ k l. h (suc k) (omega arith))
+-- The answer, from the first that is too large.
 
-names_fit_lem : (ts : List (List ℕ)) (o : ℕ) → ((j : ℕ) → j < length ts → length (get_or ts j []) ≤ 32) → names_fit ts o ≡ Ok tt
-names_fit_lem [] o h = refl
-names_fit_lem (t ∷ ts) o h =
-    cond-false _ _ _ (le-ltb _ _ (h 0 (omega arith))) ∙ names_fit_lem ts (o + 12) (λ j l. h (suc j) (omega arith))
+numbers_by : (n : ℕ) (es : List Element) (i : Option ℕ) → position (misnumbered n) es ≡ i → numbers_fit n es 32 ≡ refused_at (misnumbered n) ElementRecord 16 32 i
+numbers_by n es i p = fit_by (misnumbered n) ElementRecord 16 es 32 ∙ ap (refused_at (misnumbered n) ElementRecord 16 32) p
 
-pub fields_fit_lem : (es : List Element) (ts : List (List ℕ)) → Roomy es ts → fields_fit es ts ≡ Ok tt
-fields_fit_lem es ts r =
-    let a = numbers_fit_lem (length ts) es 32 r.named in
-    let b = names_fit_lem ts (32 + 16 * length es) r.short in
-    cond-false _ _ _ (le-ltb _ _ r.elements) ∙ (cond-false _ _ _ (le-ltb _ _ r.names) ∙ rw (a, b))
+names_by : (xs : List (Bor (List ℕ))) (o : ℕ) (j : Option ℕ) → position long xs ≡ j
+    → names_fit (texts xs) o ≡ refused_at long NameRecord 12 o j
+names_by xs o j p = lent_fit xs o ∙ (fit_by long NameRecord 12 xs o ∙ ap (refused_at long NameRecord 12 o) p)
 
--- One more.
+module _ (es : List Element) (xs : List (Bor (List ℕ))) (few : length es ≤ 65535) where
+  pub names_many : 1024 < length xs → fields_fit es (texts xs) ≡ Err (fault HeaderField 8)
+  names_many l = cond-false _ _ _ (le-ltb _ _ few) ∙ cond-true _ _ _ (lt-ltb 1024 (length (texts xs)) (omega (arith, length-texts xs)))
 
-module _ (n : ℕ) (es : List Element) (k : ℕ) (h : k < length es) where
-  step : numbers_fit n (drop k es) (32 + 16 * k) ≡ cond (leb n (get_or es k blank).name) (Err (fault ElementRecord (32 + 16 * k))) (numbers_fit n (drop (k + 1) es) (32 + 16 * (k + 1)))
-  step =
-      at_drop_more (λ (xs : List Element). numbers_fit n xs (32 + 16 * k)) es k blank h
-      ∙ ap (λ (o : ℕ). cond (leb n (get_or es k blank).name) (Err (fault ElementRecord (32 + 16 * k))) (numbers_fit n (drop (k + 1) es) o)) (omega arith)
+  module _ (few_names : length xs ≤ 1024) where
+    counts_fit : fields_fit es (texts xs) ≡ and_then (numbers_fit (length xs) es 32) (λ _. names_fit (texts xs) (32 + 16 * length es))
+    counts_fit =
+        cond-false _ _ _ (le-ltb _ _ few)
+        ∙ (cond-false _ _ _ (le-ltb 1024 (length (texts xs)) (omega (arith, length-texts xs)))
+        ∙ ap (λ (n : ℕ). and_then (numbers_fit n es 32) (λ _. names_fit (texts xs) (32 + 16 * length es))) (length-texts xs))
 
-  pub numbers_more : (get_or es k blank).name < n → numbers_fit n (drop k es) (32 + 16 * k) ≡ numbers_fit n (drop (k + 1) es) (32 + 16 * (k + 1))
-  numbers_more l = step ∙ cond-false _ _ _ (lt-leb _ _ l)
+    pub number_refused : (k : ℕ) → position (misnumbered (length xs)) es ≡ Some k → fields_fit es (texts xs) ≡ Err (fault ElementRecord (32 + 16 * k))
+    unfolding refused_at
+    number_refused k p = counts_fit ∙ rw (numbers_by (length xs) es (Some k) p) refl
 
-  pub numbers_stop : n ≤ (get_or es k blank).name → numbers_fit n (drop k es) (32 + 16 * k) ≡ Err (fault ElementRecord (32 + 16 * k))
-  numbers_stop l = step ∙ cond-true _ _ _ (le-leb _ _ l)
+    module _ (named : position (misnumbered (length xs)) es ≡ None) where
+      pub name_refused : (j : ℕ) → position long xs ≡ Some j → fields_fit es (texts xs) ≡ Err (fault NameRecord (32 + 16 * length es + 12 * j))
+      unfolding refused_at
+      name_refused j p = counts_fit ∙ rw (numbers_by (length xs) es None named, names_by xs (32 + 16 * length es) (Some j) p) refl
 
-module _ (ts : List (List ℕ)) (o j : ℕ) (h : j < length ts) where
-  step_name : names_fit (drop j ts) (o + 12 * j) ≡ cond (ltb 32 (length (get_or ts j []))) (Err (fault NameRecord (o + 12 * j))) (names_fit (drop (j + 1) ts) (o + 12 * (j + 1)))
-  step_name =
-      at_drop_more (λ (xs : List (List ℕ)). names_fit xs (o + 12 * j)) ts j [] h
-      ∙ ap (λ (p : ℕ). cond (ltb 32 (length (get_or ts j []))) (Err (fault NameRecord (o + 12 * j))) (names_fit (drop (j + 1) ts) p)) (omega arith)
+      pub none_refused : position long xs ≡ None → fields_fit es (texts xs) ≡ Ok tt
+      unfolding refused_at
+      none_refused p = counts_fit ∙ rw (numbers_by (length xs) es None named, names_by xs (32 + 16 * length es) None p) refl
 
-  pub names_more : length (get_or ts j []) ≤ 32 → names_fit (drop j ts) (o + 12 * j) ≡ names_fit (drop (j + 1) ts) (o + 12 * (j + 1))
-  names_more l = step_name ∙ cond-false _ _ _ (le-ltb _ _ l)
+-- The length of all names.
 
-  pub names_stop : 32 < length (get_or ts j []) → names_fit (drop j ts) (o + 12 * j) ≡ Err (fault NameRecord (o + 12 * j))
-  names_stop l = step_name ∙ cond-true _ _ _ (lt-ltb _ _ l)
+pub sum_texts : (xs : List (Bor (List ℕ))) → sum_by (λ x. length x.now) xs ≡ length (joint (texts xs))
+sum_texts xs = sym (ap length (flat xs) ∙ length-flat_map (λ x. x.now) xs)
+  where
+    flat : (xs : List (Bor (List ℕ))) → joint (texts xs) ≡ flat_map (λ x. x.now) xs
+    flat [] = refl
+    flat (x ∷ xs) = ap (λ (bs : List ℕ). x.now ++ bs) (flat xs)
 
--- The answer, from its parts.
+pub sum_texts_le : (xs : List (Bor (List ℕ))) → length xs ≤ 1024 → All (λ x. length x.now ≤ 32) xs → sum_by (λ x. length x.now) xs ≤ 32768
+sum_texts_le xs few short = omega (arith, sum_by-le (λ x. length x.now) 32 xs short)
 
-module _ (es : List Element) (ts : List (List ℕ)) (n : ℕ) (names : length ts ≡ n) (few : length es ≤ 65535) where
-  pub names_many : 1024 < n → fields_fit es ts ≡ Err (fault HeaderField 8)
-  names_many l = cond-false _ _ _ (le-ltb _ _ few) ∙ cond-true _ _ _ (lt-ltb 1024 (length ts) (omega arith))
-
-  pub counts_fit : n ≤ 1024 → fields_fit es ts ≡ and_then (numbers_fit n es 32) (λ _. names_fit ts (32 + 16 * length es))
-  counts_fit l =
-      cond-false _ _ _ (le-ltb _ _ few)
-      ∙ (cond-false _ _ _ (le-ltb 1024 (length ts) (omega arith)) ∙ ap (λ (m : ℕ). and_then (numbers_fit m es 32) (λ _. names_fit ts (32 + 16 * length es))) names)
-
-pub then_granted : (r k : Result (Unit {0}) Fault) (u : Unit {0}) → Ok u ≡ r → k ≡ and_then r (λ _. k)
-then_granted r k u e = ap (λ x. and_then x (λ _. k)) e
-
-pub then_refused : (r k : Result (Unit {0}) Fault) (f : Fault) → Err f ≡ r → Err f ≡ and_then r (λ _. k)
-then_refused r k f e = ap (λ x. and_then x (λ _. k)) e
-
-module _ (es : List Element) (ts : List (List ℕ)) (room total : ℕ) (u : Unit {0}) (fit : Ok u ≡ fields_fit es ts) (is : total ≡ length (encoded es ts)) where
-  by_room : cond (ltb room total) (Err (fault SheetWontFit total)) (Ok total) ≡ encodes es ts room
-  by_room =
-      ap (λ (n : ℕ). cond (ltb room n) (Err (fault SheetWontFit n)) (Ok n)) is
-      ∙ ap (λ (r : Result (Unit {0}) Fault). and_then r (λ _. cond (ltb room (length (encoded es ts))) (Err (fault SheetWontFit (length (encoded es ts)))) (Ok (length (encoded es ts))))) fit
-
-  pub encodes_short : room < total → Err (fault SheetWontFit total) ≡ encodes es ts room
-  encodes_short l = sym (cond-true _ _ _ (lt-ltb _ _ l)) ∙ by_room
-
-  pub encodes_whole : total ≤ room → Ok total ≡ encodes es ts room
-  encodes_whole l = sym (cond-false _ _ _ (le-ltb _ _ l)) ∙ by_room
+pub joint_le : (xs : List (Bor (List ℕ))) → length xs ≤ 1024 → All (λ x. length x.now ≤ 32) xs → length (joint (texts xs)) ≤ 32768
+joint_le xs few short = omega (arith, sum_texts_le xs few short, sum_texts xs)

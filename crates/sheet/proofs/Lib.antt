@@ -1,6 +1,5 @@
 pub mod Props
 pub mod Sizes
-pub mod Puts
 pub mod Parts
 pub mod Fields
 pub mod Stacks

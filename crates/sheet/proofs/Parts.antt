@@ -1,115 +1,138 @@
--- A sheet is written part by part.
-use Rattle.std.proofs.Common.{◌≡◌, ℕ, ◌+◌, ◌*◌, ◌<◌, ◌≤◌, true, false, eqb, ◌≢◌, List, [], ◌∷◌, ◌++◌, length, get_or, drop, set, replicate, sym, refl, ap, ◌∙◌, subst, ⊎_elim, arith}
-use Rattle.std.proofs.lemmas.List.{at_drop_more, drop_all, get_or-replicate, get_or-set_same, get_or-set_other}
+-- The tables of a sheet, as they are written record by record.
+use Rattle.std.proofs.Common.{◌≡◌, ℕ, zero, suc, ◌+◌, ◌-◌, ◌*◌, ◌<◌, ◌≤◌, true, false, eqb, ◌≢◌, List, [], ◌∷◌, ◌++◌, length, get_or, take, drop, set, replicate, Bor, sym, refl, ap, ◌∙◌, ⊎_elim, add-one, zero-add, arith}
+use Rattle.std.proofs.lemmas.List.{append_assoc, append-nil, length-append, length-take-le, take_at, drop_at, drop-drop, take-take, get_or-take, at_drop_more, drop_all, get_or-replicate, get_or-set_same, get_or-set_other, get_or-map}
+use Rattle.std.proofs.Math.Seq.{get_or-append_seam}
+use Rattle.std.proofs.lemmas.Slice.{take-put_mid}
 use Rattle.std.proofs.lemmas.Bool.{cases_eq, eq-eqb, ne_eqb, cond-true, cond-false}
+use borrow.Rule.Slice.PartMut.{put_mid}
 use Rattle.tree.specs.declared.element.Element.{Element}
-use Rattle.layout.specs.Encoding.{blank, seek, le32, element_bytes, element_table, name_bytes, name_table, header_bytes, words, joint, encoded}
-use Rattle.layout.proofs.Tables.{length-le32, length-element, length-name, length-header, length-elements, length-names, length-encoded, seek_more, joint_more}
-use Rattle.sheet.specs.Writing.{Puts}
-use Rattle.sheet.proofs.Puts.{puts_none, puts_after, puts_before}
+use Rattle.layout.specs.Encoding.{blank, seek, element_bytes, element_table, name_bytes, name_table, header_bytes, joint, encoded}
+use Rattle.layout.proofs.Tables.{length-name, length-encoded, seek_more, length_joint_halves}
+use Rattle.sheet.specs.Writing.{texts}
+use Rattle.sheet.proofs.Fields.{length-texts}
 
--- One more number or record.
+-- The element table, from the back.
 
-pub word_more : (ns : List ℕ) (i : ℕ) (s s₁ w : List ℕ) (at b : ℕ) → i < length ns → b ≡ at + 4 → b ≤ length s
-    → Puts (le32 (get_or ns i 0)) s at s₁ → Puts (words (drop (i + 1) ns)) s₁ b w → Puts (words (drop i ns)) s at w
-word_more ns i s s₁ w at b h p room a c =
-    subst (λ (x : List ℕ). Puts x s at w) (sym (at_drop_more words ns i 0 h))
-    (puts_after (le32 (get_or ns i 0)) (words (drop (i + 1) ns)) s at b (omega (arith, length-le32 (get_or ns i 0))) room s₁ w a c)
-
--- name i, t: writing what is left makes the whole
-pub text_more : (ts : List (List ℕ)) (i : ℕ) (t s s₁ w : List ℕ) (at b : ℕ) → i < length ts → t ≡ get_or ts i [] → b ≡ at + length t → b ≤ length s
-    → Puts t s at s₁ → Puts (joint (drop (i + 1) ts)) s₁ b w → Puts (joint (drop i ts)) s at w
-text_more ts i t s s₁ w at b h e p room a c =
-    subst (λ (x : List ℕ). Puts x s at w) (ap (λ (x : List ℕ). x ++ joint (drop (i + 1) ts)) e ∙ sym (joint_more ts i h))
-    (puts_after t (joint (drop (i + 1) ts)) s at b p room s₁ w a c)
-
-pub name_more : (f : ℕ → ℕ) (ts : List (List ℕ)) (j o : ℕ) (t s s₁ w : List ℕ) (at b : ℕ) → j < length ts → t ≡ get_or ts j [] → b ≡ at + 12 → b ≤ length s
-    → Puts (name_bytes o (length t) (f j)) s at s₁
-    → Puts (name_table f (drop (j + 1) ts) (j + 1) (o + length t)) s₁ b w → Puts (name_table f (drop j ts) j o) s at w
-name_more f ts j o t s s₁ w at b h e p room a c =
-    let v = name_bytes o (length t) (f j) in
-    let r : v ++ name_table f (drop (j + 1) ts) (j + 1) (o + length t) ≡ name_table f (drop j ts) j o =
-    rw e (sym (at_drop_more (λ (xs : List (List ℕ)). name_table f xs j o) ts j [] h)) in
-    subst (λ (x : List ℕ). Puts x s at w) r
-    (puts_after v (name_table f (drop (j + 1) ts) (j + 1) (o + length t)) s at b (omega (arith, length-name o (length t) (f j))) room s₁ w a c)
-
--- no element from m on
+-- no element is left behind the last
 module _ (es : List Element) (m : ℕ) (past : length es ≤ m) where
-  pub table_none : (s : List ℕ) → Puts (element_table (drop m es) m) s (32 + 16 * m) s
-  table_none s = let d = drop_all m es past in rw d (puts_none s (32 + 16 * m))
+  pub table_none : (table : List ℕ) → length table ≤ 16 * m → drop (16 * m) table ≡ element_table (drop m es) m
+  table_none table h = let d = drop_all m es past in rw d (drop_all (16 * m) table h)
 
   pub seek_none : (n : ℕ) → n < 1024 → get_or (replicate 1024 m) n 0 ≡ seek n (drop m es) m
   seek_none n h = let d = drop_all m es past in rw d (get_or-replicate 1024 n m 0 h)
 
--- element k, from the back, where those from m on are done
-module _ (es : List Element) (k m : ℕ) (h : k < length es) (next : m ≡ k + 1) where
-  pub seek_set : (nearest : List ℕ) (i : ℕ) → length nearest ≡ 1024 → i ≡ (get_or es k blank).name
-      → ((n : ℕ) → n < 1024 → get_or nearest n 0 ≡ seek n (drop m es) m)
-      → (n : ℕ) → n < 1024 → get_or (set nearest i k) n 0 ≡ seek n (drop k es) k
-  seek_set nearest i l p inv n b =
-      ⊎_elim
-      (λ (e : n ≡ i).
-      let q : eqb (get_or es k blank).name n ≡ true = eq-eqb (get_or es k blank).name n (sym p ∙ sym e) in
-      let g : get_or (set nearest i k) n 0 ≡ k = rw e (get_or-set_same nearest i k 0 (omega arith)) in
-      let r : seek n (drop k es) k ≡ k = seek_more es k m h next n ∙ cond-true _ _ _ q in
-      g ∙ sym r)
-      (λ (ne : n ≢ i).
-      let q : eqb (get_or es k blank).name n ≡ false = ne_eqb (get_or es k blank).name n (λ x. ne (sym x ∙ sym p)) in
-      let r : seek n (drop k es) k ≡ seek n (drop m es) m = seek_more es k m h next n ∙ cond-false _ _ _ q in
-      get_or-set_other nearest i n k 0 ne ∙ (inv n b ∙ sym r))
-      (cases_eq n i)
+-- e is the last of the first m elements, and has the number k; `left` are those before it
+pub record LastOf (es : List Element) (m k : ℕ) (left : List Element) (e : Element) : Type 0 where
+  pub number : m ≡ k + 1
+  pub before : take k es ≡ left
+  pub element : e ≡ get_or es k blank
 
-  pub table_more : (s s₁ s₂ : List ℕ) (v : ℕ) → v ≡ seek (get_or es k blank).name (drop m es) m
-      → 32 + 16 * m ≤ length s
-      → Puts (element_table (drop m es) m) s (32 + 16 * m) s₁
-      → Puts (element_bytes (get_or es k blank) v) s₁ (32 + 16 * k) s₂ → Puts (element_table (drop k es) k) s (32 + 16 * k) s₂
-  table_more s s₁ s₂ v q room a b =
-      let e = get_or es k blank in
-      let w = element_table (drop m es) m in
-      let r = puts_before (element_bytes e v) w s (32 + 16 * k) (32 + 16 * m) (omega (arith, length-element e v)) room s₁ s₂ a b in
-      let t : element_bytes e v ++ w ≡ element_table (drop k es) k =
-      rw (q, next) (sym (at_drop_more (λ (xs : List Element). element_table xs k) es k blank h)) in
-      subst (λ (x : List ℕ). Puts x s (32 + 16 * k) s₂) t r
+pub last_of : (es left : List Element) (e : Element) (m k : ℕ) → k ≡ length left → m ≤ length es → take m es ≡ left ++ e ∷ [] → LastOf es m k left e
+last_of es left e m k p within h =
+    let l : m ≡ k + 1 = sym (length-take-le m es within) ∙ (ap length h ∙ (length-append left (e ∷ []) ∙ omega arith)) in
+    record {
+      number = l;
+      before = sym (take-take k m es (omega arith)) ∙ (ap (take k) h ∙ take_at left (e ∷ []) k (sym p));
+      element =
+          sym (get_or-append_seam left e [] blank)
+          ∙ (ap (λ (xs : List Element). get_or xs (length left) blank) (sym h)
+          ∙ (ap (λ (i : ℕ). get_or (take m es) i blank) (sym p) ∙ get_or-take m es k blank (omega arith)));
+    }
+
+-- element k, where those from m on are done
+module _ (es : List Element) (k m : ℕ) (within : k < length es) (next : m ≡ k + 1) (e : Element) (is : e ≡ get_or es k blank) where
+  pub seek_set : (nearest : List ℕ) → length nearest ≡ 1024 → e.name < 1024 → ((n : ℕ) → n < 1024 → get_or nearest n 0 ≡ seek n (drop m es) m)
+      → (n : ℕ) → n < 1024 → get_or (set nearest e.name k) n 0 ≡ seek n (drop k es) k
+  seek_set nearest l low done n b =
+      ⊎_elim
+      (λ (s : n ≡ e.name).
+      let q : eqb (get_or es k blank).name n ≡ true = eq-eqb (get_or es k blank).name n (sym (s ∙ ap (λ x. x.name) is)) in
+      let g : get_or (set nearest e.name k) n 0 ≡ k = rw s (get_or-set_same nearest e.name k 0 (omega arith)) in
+      g ∙ sym (seek_more es k m within next n ∙ cond-true _ _ _ q))
+      (λ (ne : n ≢ e.name).
+      let q : eqb (get_or es k blank).name n ≡ false = ne_eqb (get_or es k blank).name n (λ x. ne (sym x ∙ sym (ap (λ x. x.name) is))) in
+      get_or-set_other nearest e.name n k 0 ne ∙ (done n b ∙ sym (seek_more es k m within next n ∙ cond-false _ _ _ q)))
+      (cases_eq n e.name)
+
+  pub table_more : (table out : List ℕ) (v : ℕ) → v ≡ seek e.name (drop m es) m → out ≡ element_bytes e v
+      → 16 * m ≤ length table → drop (16 * m) table ≡ element_table (drop m es) m
+      → drop (16 * k) (put_mid (16 * k) (16 * (k + 1) - 16 * k) table out) ≡ element_table (drop k es) k
+  table_more table out v p q room done =
+      let a : 16 * (k + 1) - 16 * k ≡ 16 = omega arith in
+      let r : drop 16 (drop (16 * k) table) ≡ drop (16 * m) table = drop-drop 16 (16 * k) table ∙ ap (λ (i : ℕ). drop i table) (omega arith) in
+      let s : drop (16 * k) (put_mid (16 * k) 16 table out) ≡ out ++ drop 16 (drop (16 * k) table) =
+      drop_at (take (16 * k) table) (out ++ drop 16 (drop (16 * k) table)) (16 * k) (length-take-le (16 * k) table (omega arith)) in
+      ap (λ (i : ℕ). drop (16 * k) (put_mid (16 * k) i table out)) a
+      ∙ (s ∙ (rw (q, r, done, p, is, next) (sym (at_drop_more (λ (xs : List Element). element_table xs k) es k blank within))))
+
+-- The name table and the names' bytes, one name more.
+
+joint_take : (ts : List (List ℕ)) (k : ℕ) → k < length ts → joint (take (suc k) ts) ≡ joint (take k ts) ++ get_or ts k []
+joint_take [] k h = absurd (omega arith)
+joint_take (t ∷ ts) zero h = append-nil t
+joint_take (t ∷ ts) (suc k) h = ap (λ (bs : List ℕ). t ++ bs) (joint_take ts k (omega arith)) ∙ sym (append_assoc t (joint (take k ts)) (get_or ts k []))
+
+names_take : (f : ℕ → ℕ) (ts : List (List ℕ)) (k j o : ℕ) → k < length ts
+    → name_table f (take (suc k) ts) j o ≡ name_table f (take k ts) j o ++ name_bytes (o + length (joint (take k ts))) (length (get_or ts k [])) (f (j + k))
+names_take f [] k j o h = absurd (omega arith)
+names_take f (t ∷ ts) zero j o h = let a : o + 0 ≡ o = omega arith in let b : j + 0 ≡ j = omega arith in rw (a, b) (append-nil (name_bytes o (length t) (f j)))
+names_take f (t ∷ ts) (suc k) j o h =
+    let a : o + length t + length (joint (take k ts)) ≡ o + length (t ++ joint (take k ts)) = omega (arith, length-append t (joint (take k ts))) in
+    let b : j + 1 + k ≡ j + suc k = omega arith in
+    let n = name_bytes o (length t) (f j) in
+    let r = name_table f (take k ts) (j + 1) (o + length t) in
+    let w = name_bytes (o + length (t ++ joint (take k ts))) (length (get_or ts k [])) (f (j + suc k)) in
+    ap (λ (bs : List ℕ). n ++ bs) (names_take f ts k (j + 1) (o + length t) (omega arith) ∙ rw (a, b) refl) ∙ sym (append_assoc n r w)
+
+-- name k, x, whose bytes begin at o
+module _ (xs : List (Bor (List ℕ))) (k o : ℕ) (d : Bor (List ℕ)) (within : k < length xs) (begins : o ≡ length (joint (take k (texts xs)))) where
+  name : get_or (texts xs) k [] ≡ (get_or xs k d).now
+  name = get_or-map (λ x. x.now) xs k d [] within
+
+  below : k < length (texts xs)
+  below = omega (arith, length-texts xs)
+
+  joint_more : joint (take (k + 1) (texts xs)) ≡ joint (take k (texts xs)) ++ (get_or xs k d).now
+  joint_more = rw (add-one k) (joint_take (texts xs) k below) ∙ ap (λ (t : List ℕ). joint (take k (texts xs)) ++ t) name
+
+  pub offset_more : o + length (get_or xs k d).now ≡ length (joint (take (k + 1) (texts xs)))
+  offset_more = omega (arith, begins, ap length joint_more, length-append (joint (take k (texts xs))) (get_or xs k d).now)
+
+  pub offset_within : o + length (get_or xs k d).now ≤ length (joint (texts xs))
+  offset_within = omega (arith, offset_more, length_joint_halves (texts xs) (k + 1))
+
+  pub text_more : (text out : List ℕ) → o ≤ length text → out ≡ (get_or xs k d).now → take o text ≡ joint (take k (texts xs))
+      → take (o + length (get_or xs k d).now) (put_mid o (o + length (get_or xs k d).now - o) text out) ≡ joint (take (k + 1) (texts xs))
+  text_more text out room q done =
+      take-put_mid o (o + length (get_or xs k d).now - o) text out (o + length (get_or xs k d).now) (omega (arith, ap length q)) room
+      ∙ (rw (done, q) (sym joint_more))
+
+  pub names_more : (f : ℕ → ℕ) (table out : List ℕ) → 12 * k ≤ length table → out ≡ name_bytes o (length (get_or xs k d).now) (f k)
+      → take (12 * k) table ≡ name_table f (take k (texts xs)) 0 0
+      → take (12 * (k + 1)) (put_mid (12 * k) (12 * (k + 1) - 12 * k) table out) ≡ name_table f (take (k + 1) (texts xs)) 0 0
+  names_more f table out room q done =
+      let n : 12 * (k + 1) ≡ 12 * k + length out = omega (arith, ap length q, length-name o (length (get_or xs k d).now) (f k)) in
+      take-put_mid (12 * k) (12 * (k + 1) - 12 * k) table out (12 * (k + 1)) n room
+      ∙ (rw (done, q, begins, ← name, add-one k) (sym (names_take f (texts xs) k 0 0 below ∙ rw (zero-add k, zero-add (length (joint (take k (texts xs))))) refl)))
 
 -- The whole.
 
+pub length_sheet : (es : List Element) (xs : List (Bor (List ℕ))) → length (encoded es (texts xs)) ≡ 32 + 16 * length es + 12 * length xs + length (joint (texts xs))
+length_sheet es xs = omega (arith, length-encoded es (texts xs), length-texts xs)
+
 -- the name table asks for the first elements of its own names alone
-pub names_same : (f g : ℕ → ℕ) (ts : List (List ℕ)) (j o : ℕ) → ((n : ℕ) → n < 1024 → f n ≡ g n) → j + length ts ≤ 1024 → name_table f ts j o ≡ name_table g ts j o
+names_same : (f g : ℕ → ℕ) (ts : List (List ℕ)) (j o : ℕ) → ((n : ℕ) → n < 1024 → f n ≡ g n) → j + length ts ≤ 1024 → name_table f ts j o ≡ name_table g ts j o
 names_same f g [] j o e h = refl
 names_same f g (t ∷ ts) j o e h =
     let p = e j (omega arith) in
     let q = names_same f g ts (j + 1) (o + length t) e (omega arith) in
-    rw (p, q)
+    rw (p, q) refl
 
--- a sheet is written part by part
-pub whole_sheet : (es : List Element) (ts : List (List ℕ)) (f : ℕ → ℕ) (c : ℕ) (s s₁ s₂ s₃ s₄ : List ℕ) → length (encoded es ts) ≤ length s
-    → length ts ≤ 1024 → ((n : ℕ) → n < 1024 → f n ≡ seek n es 0) → c ≡ length (joint ts)
-    → Puts (header_bytes (length es) (length ts) c) s 0 s₁ → Puts (element_table es 0) s₁ 32 s₂
-    → Puts (name_table f ts 0 0) s₂ (32 + 16 * length es) s₃ → Puts (joint ts) s₃ (32 + 16 * length es + 12 * length ts) s₄
-    → length s₁ ≡ length s → length s₂ ≡ length s → Puts (encoded es ts) s 0 s₄
-whole_sheet es ts f c s s₁ s₂ s₃ s₄ room few e n p₁ p₂ p₃ p₄ l₁ l₂ =
-    let len = length-encoded es ts in
-    let h = header_bytes (length es) (length ts) c in
-    let a = element_table es 0 in
-    let b = name_table f ts 0 0 in
-    let o = 32 + 16 * length es in
-    let q₃ = puts_after b (joint ts) s₂ o (o + 12 * length ts) (omega (arith, length-names f ts 0 0)) (omega arith) s₃ s₄ p₃ p₄ in
-    let q₂ = puts_after a (b ++ joint ts) s₁ 32 o (omega (arith, length-elements es 0)) (omega arith) s₂ s₄ p₂ q₃ in
-    let q₁ = puts_after h (a ++ (b ++ joint ts)) s 0 32 (omega (arith, length-header (length es) (length ts) c)) (omega arith) s₁ s₄ p₁ q₂ in
-    let same : b ≡ name_table (λ j. seek j es 0) ts 0 0 = names_same f (λ j. seek j es 0) ts 0 0 e (omega arith) in
-    let all : h ++ (a ++ (b ++ joint ts)) ≡ encoded es ts = rw (n, same) in
-    subst (λ (x : List ℕ). Puts x s 0 s₄) all q₁
-
--- the same, where n is the number of names
-pub sheet_written : (es : List Element) (ts : List (List ℕ)) (f : ℕ → ℕ) (n c : ℕ) (s s₁ s₂ s₃ s₄ : List ℕ) → 32 + 16 * length es + 12 * n + c ≤ length s
-    → n ≤ 1024 → ((n : ℕ) → n < 1024 → f n ≡ seek n es 0) → n ≡ length ts → c ≡ length (joint ts)
-    → Puts (header_bytes (length es) n c) s 0 s₁ → Puts (element_table es 0) s₁ 32 s₂
-    → Puts (name_table f ts 0 0) s₂ (32 + 16 * length es) s₃ → Puts (joint ts) s₃ (32 + 16 * length es + 12 * n) s₄
-    → length s₁ ≡ length s → length s₂ ≡ length s
-    → (32 + 16 * length es + 12 * n + c ≡ length (encoded es ts)) × (s₄ ≡ encoded es ts ++ drop (32 + 16 * length es + 12 * n + c) s)
-sheet_written es ts f n c s s₁ s₂ s₃ s₄ room few e p q p₁ p₂ p₃ p₄ l₁ l₂ =
-    let len = length-encoded es ts in
-    let t : 32 + 16 * length es + 12 * n + c ≡ length (encoded es ts) = omega arith in
-    let w = whole_sheet es ts f c s s₁ s₂ s₃ s₄ (omega arith) (omega arith) e q (rw p at p₁) p₂ p₃ (rw p at p₄) l₁ l₂ in
-    let z : 0 + length (encoded es ts) ≡ 32 + 16 * length es + 12 * n + c = omega arith in
-    (t, w ∙ ap (λ (m : ℕ). encoded es ts ++ drop m s) z)
+-- a sheet is its header, its tables and the names' bytes
+pub sheet_of_parts : (es : List Element) (xs : List (Bor (List ℕ))) (f : ℕ → ℕ) (c : ℕ) (header elements names text : List ℕ)
+    → length xs ≤ 1024 → c ≡ length (joint (texts xs)) → ((n : ℕ) → n < 1024 → f n ≡ seek n es 0)
+    → header ≡ header_bytes (length es) (length xs) c → elements ≡ element_table es 0 → names ≡ name_table f (texts xs) 0 0 → text ≡ joint (texts xs)
+    → header ++ (elements ++ (names ++ text)) ≡ encoded es (texts xs)
+sheet_of_parts es xs f c header elements names text few n first p q r s =
+    let same : name_table f (texts xs) 0 0 ≡ name_table (λ j. seek j es 0) (texts xs) 0 0 = names_same f (λ j. seek j es 0) (texts xs) 0 0 first (omega (arith, length-texts xs)) in
+    rw (p, q, r, s, same, n, ← length-texts xs) refl

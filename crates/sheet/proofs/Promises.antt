@@ -19,7 +19,7 @@ pub lawful_trees_are_encoded : LawfulTreesAreEncoded
 lawful_trees_are_encoded t law room =
     let es = t.elements in
     let ts = t.names in
-    let fit = fields_fit_lem es ts (record { elements = few_elements es ts law; names = law.few; named = named_below es ts law; short = names_short es ts law }) in
+    let fit = fields_fit_lem es ts (few_elements es ts law) law.few (named_below es ts law) (names_short es ts law) in
     ap (λ (r : Result (Unit {0}) Fault). and_then r (λ _. cond (ltb room (length (sheet_of t))) (Err (fault SheetWontFit (length (sheet_of t)))) (Ok (length (sheet_of t))))) fit
 
 pub encodings_open : EncodingsOpen

@@ -1,20 +1,29 @@
 -- What writing a sheet answers, and what the buffer then holds.
-use Rattle.std.specs.Prelude.{◌≡◌, ℕ, ◌+◌, ◌*◌, cond, List, [], ◌∷◌, ◌++◌, length, take, drop, Ok, Err, Result, nat_le, nat_lt}
+use Rattle.std.specs.Prelude.{ℕ, ◌+◌, ◌*◌, Bool, cond, List, [], ◌∷◌, ◌++◌, map, length, drop, Ok, Err, Result, nat_le, nat_lt}
+use Rattle.std.specs.Borrow.{Bor}
 use Rattle.markup.specs.declared.fault.Fault.{Fault}
+use Rattle.markup.specs.declared.fault.Refusal.{Refusal}
 use Rattle.markup.specs.declared.fault.Refusal.TheVariants.{SheetWontFit, HeaderField, ElementRecord, NameRecord}
 use Rattle.markup.specs.Faults.{fault, and_then}
 use Rattle.tree.specs.declared.element.Element.{Element}
 use Rattle.layout.specs.Encoding.{encoded}
 
+-- the bytes of names that are lent
+abbrev pub texts : List (Bor (List ℕ)) → List (List ℕ)
+texts names = map (λ n. n.now) names
+
+-- the first of the items, whose records of so many bytes begin at o, that no record can hold
+abbrev pub each_fits : {A : Type 0} → (A → Bool) → Refusal → ℕ → List A → ℕ → Result (Unit {0}) Fault
+each_fits too_large r size [] o = Ok tt
+each_fits too_large r size (x ∷ xs) o = cond (too_large x) (Err (fault r o)) (each_fits too_large r size xs (o + size))
+
 -- the first of the elements, whose records begin at o, with a name number of n or more
 abbrev pub numbers_fit : ℕ → List Element → ℕ → Result (Unit {0}) Fault
-numbers_fit n [] o = Ok tt
-numbers_fit n (e ∷ es) o = cond (nat_le n e.name) (Err (fault ElementRecord o)) (numbers_fit n es (o + 16))
+numbers_fit n es o = each_fits (λ e. nat_le n e.name) ElementRecord 16 es o
 
 -- the first of the names, whose records begin at o, with more than 32 bytes
 abbrev pub names_fit : List (List ℕ) → ℕ → Result (Unit {0}) Fault
-names_fit [] o = Ok tt
-names_fit (t ∷ ts) o = cond (nat_lt 32 (length t)) (Err (fault NameRecord o)) (names_fit ts (o + 12))
+names_fit ts o = each_fits (λ t. nat_lt 32 (length t)) NameRecord 12 ts o
 
 -- the first field or record of a sheet that cannot hold what these elements and names have there
 abbrev pub fields_fit : List Element → List (List ℕ) → Result (Unit {0}) Fault
@@ -33,7 +42,3 @@ encodes es ts room =
 abbrev pub written : List Element → List (List ℕ) → Result ℕ Fault → List ℕ → List ℕ
 written es ts (Ok n) old = encoded es ts ++ drop n old
 written es ts (Err f) old = old
-
--- after writing v at the offset o over `old`, `new` stands there
-abbrev pub Puts : List ℕ → List ℕ → ℕ → List ℕ → Type 0
-Puts v old o new = new ≡ take o old ++ (v ++ drop (o + length v) old)

@@ -1,142 +1,121 @@
 // Writes the sheet of elements and names.
-ghost use Rattle.std.specs.Prelude.{◌≡◌, ℕ, ◌+◌, ◌*◌, ◌<◌, ◌≤◌, [], map, length, slice_index, slice_index_or};
-ghost use Rattle.layout.specs.Encoding.{blank, seek, element_table, name_table, header_bytes, joint};
-ghost use Rattle.sheet.specs.Writing.{numbers_fit, names_fit, fields_fit, encodes, written, Puts};
+ghost use Rattle.std.specs.Prelude.{◌≡◌, ℕ, ◌+◌, ◌*◌, ◌<◌, ◌≤◌, MatchResult, All, length, slice_index};
+ghost use Rattle.layout.specs.Encoding.{seek, element_table, name_table, joint, encoded};
+ghost use Rattle.sheet.specs.Writing.{texts, fields_fit, encodes, written};
 
-use crate::limits::{MOST_ELEMENTS, MOST_NAMES};
 use crate::write;
 use layout::NameRecord;
 use markup::{Fault, Refusal, name};
 use tree::Element;
+use tree::limits::{MOST_ELEMENTS, MOST_NAMES};
 
-// Whether the elements' name numbers are below the count of names; else the first element record that would be wrong.
-fn check_numbers(elements: &[Element], names: usize) -> Result<(), Fault>
-    requires { length elements.now ≤ 65535 }
-    ensures { result ≡ numbers_fit names elements.now 32 }
-{
-    for (k, e) in elements.iter().enumerate() {
-        if e.name as usize >= names {
-            return Err(Fault {
-                refusal: Refusal::ElementRecord,
-                place: 32 + 16 * k,
-            });
-        }
-    }
-    Ok(())
-}
-
-// Whether the names, whose records begin at `table`, are short enough; else the first name record that would be wrong.
-fn check_lengths(names: &[&[u8]], table: usize) -> Result<(), Fault>
-    requires few { length names.now ≤ 1024 }
-    requires low { table ≤ 1048592 }
-    ensures { result ≡ names_fit (map (λ x. x.now) names.now) table }
-{
-    for (j, name) in names.iter().enumerate() {
-        if name.len() > name::MOST_BYTES {
-            return Err(Fault {
-                refusal: Refusal::NameRecord,
-                place: table + 12 * j,
-            });
-        }
-    }
-    Ok(())
-}
-
-// Whether a sheet's fields can hold these elements and names.
+// Whether a sheet's fields can hold these elements and names; else the first field or record that would be wrong.
 fn check_fields(elements: &[Element], names: &[&[u8]]) -> Result<(), Fault>
-    ensures { result ≡ fields_fit elements.now (map (λ x. x.now) names.now) }
+    ensures { result ≡ fields_fit elements.now (texts names.now) }
 {
     if elements.len() > MOST_ELEMENTS {
-        return Err(Fault {
-            refusal: Refusal::HeaderField,
-            place: 4,
-        });
+        return Err(Refusal::HeaderField.at(4));
     }
     if names.len() > MOST_NAMES {
-        return Err(Fault {
-            refusal: Refusal::HeaderField,
-            place: 8,
-        });
+        return Err(Refusal::HeaderField.at(8));
     }
-    check_numbers(elements, names.len())?;
-    check_lengths(names, 32 + 16 * elements.len())
-}
-
-// How many bytes the names have together.
-fn joint_length(names: &[&[u8]]) -> usize
-    requires few { length names.now ≤ 1024 }
-    requires short { (j : ℕ) → j < length names.now → length (slice_index_or (map (λ x. x.now) names.now) j []) ≤ 32 }
-    ensures is { result ≡ length (joint (map (λ x. x.now) names.now)) }
-    ensures few { result ≤ 32768 }
-{
-    let mut sum = 0;
-    for name in names {
-        sum += name.len();
+    if let Some(k) = elements.iter().position(|e| e.name as usize >= names.len()) {
+        return Err(Refusal::ElementRecord.at(32 + 16 * k));
     }
-    sum
-}
-
-// The header, for so many elements, names and name bytes.
-fn put_header(out: &mut [u8], elements: u32, names: u32, bytes: u32)
-    requires few { (elements ≤ 65535) × (names ≤ 1024) × (bytes ≤ 32768) }
-    requires room { 32 ≤ length out.old }
-    ensures { Puts (header_bytes elements names bytes) out.old 0 out.new }
-{
-    let table = 32 + 16 * elements;
-    let text = table + 12 * names;
-    write::put_words(
-        out,
-        0,
-        &[1, elements, names, 32, table, text, bytes, text + bytes],
-    );
-}
-
-// The element table, in one pass from the back that knows the nearest element of each name. Answers each name's first element.
-fn put_elements(out: &mut [u8], elements: &[Element]) -> [u32; MOST_NAMES]
-    requires few { length elements.now ≤ 65535 }
-    requires named { (k : ℕ) → k < length elements.now → (slice_index_or elements.now k blank).name < 1024 }
-    requires room { 32 + 16 * length elements.now ≤ length out.old }
-    ensures puts { Puts (element_table elements.now 0) out.old 32 out.new }
-    ensures first { (n : ℕ) → n < 1024 → slice_index result n ≡ seek n elements.now 0 }
-{
-    let mut nearest = [elements.len() as u32; MOST_NAMES];
-    for k in (0..elements.len()).rev() {
-        let e = elements[k];
-        let name = e.name as usize;
-        write::put_element(out, 32 + 16 * k, e, nearest[name]);
-        nearest[name] = k as u32;
+    if let Some(j) = names.iter().position(|n| n.len() > name::MOST_BYTES) {
+        return Err(Refusal::NameRecord.at(32 + 16 * elements.len() + 12 * j));
     }
-    nearest
+    Ok(())
 }
 
-// The name table, from the offset `at` on.
-fn put_names(out: &mut [u8], at: usize, names: &[&[u8]], first: &[u32; MOST_NAMES])
-    requires few { length names.now ≤ 1024 }
-    requires short { (j : ℕ) → j < length names.now → length (slice_index_or (map (λ x. x.now) names.now) j []) ≤ 32 }
-    requires room { at + 12 * length names.now ≤ length out.old }
-    ensures { Puts (name_table (λ j. slice_index first.now j) (map (λ x. x.now) names.now) 0 0) out.old at out.new }
-{
-    let mut offset = 0;
-    for (j, name) in names.iter().enumerate() {
-        let length = name.len() as u32;
-        let record = NameRecord {
-            offset,
-            length,
-            first: first[j],
-        };
-        write::put_name(out, at + 12 * j, record);
-        offset += length;
+// Elements and names that a sheet's fields can hold.
+#[derive(Clone, Copy)]
+struct Contents<'a> {
+    elements: &'a [Element],
+    names: &'a [&'a [u8]],
+    ghost few_elements: { length elements.now ≤ 65535 },
+    ghost few_names: { length names.now ≤ 1024 },
+    ghost numbered: { All (λ e. e.name < length names.now) elements.now },
+    ghost short: { All (λ n. length n.now ≤ 32) names.now },
+}
+
+impl<'a> Contents<'a> {
+    fn new(elements: &'a [Element], names: &'a [&'a [u8]]) -> Result<Contents<'a>, Fault>
+        ensures { MatchResult result (λ c. (fields_fit elements.now (texts names.now) ≡ Ok tt) × (c.elements.now ≡ elements.now) × (c.names.now ≡ names.now)) (λ f. fields_fit elements.now (texts names.now) ≡ Err f) }
+    {
+        check_fields(elements, names)?;
+        Ok(Contents { elements, names })
     }
-}
 
-// The names' bytes, from the offset `at` on.
-fn put_texts(out: &mut [u8], mut at: usize, names: &[&[u8]])
-    requires { at + length (joint (map (λ x. x.now) names.now)) ≤ length out.old }
-    ensures { Puts (joint (map (λ x. x.now) names.now)) out.old at out.new }
-{
-    for name in names {
-        write::put(out, at, name);
-        at += name.len();
+    // How many bytes the names have together.
+    fn joint_length(&self) -> usize
+        ensures { result ≡ length (joint (texts self.now.names.now)) }
+    {
+        self.names.iter().map(|n| n.len()).sum()
+    }
+
+    // How long the sheet is.
+    #[tactic(auto, using(crate::proofs::Parts::length_sheet, crate::proofs::Fields::joint_le))]
+    fn sheet_length(&self) -> usize
+        ensures { result ≡ length (encoded self.now.elements.now (texts self.now.names.now)) }
+    {
+        32 + 16 * self.elements.len() + 12 * self.names.len() + self.joint_length()
+    }
+
+    // Writes the element table, in one pass from the back that knows the nearest element of each name. Answers each
+    // name's first element.
+    fn put_elements(&self, table: &mut [u8]) -> [u32; MOST_NAMES]
+        requires { length table.old ≡ 16 * length self.now.elements.now }
+        ensures puts { table.new ≡ element_table self.now.elements.now 0 }
+        ensures first { (n : ℕ) → n < 1024 → slice_index result n ≡ seek n self.now.elements.now 0 }
+    {
+        let mut nearest = [self.elements.len() as u32; MOST_NAMES];
+        for (k, e) in self.elements.iter().enumerate().rev() {
+            let name = e.name as usize;
+            write::put_element(&mut table[16 * k..16 * (k + 1)], *e, nearest[name]);
+            nearest[name] = k as u32;
+        }
+        nearest
+    }
+
+    // Writes the name table and the names' bytes.
+    fn put_names(&self, first: &[u32; MOST_NAMES], table: &mut [u8], text: &mut [u8])
+        requires table { length table.old ≡ 12 * length self.now.names.now }
+        requires text { length text.old ≡ length (joint (texts self.now.names.now)) }
+        ensures table { table.new ≡ name_table (λ j. slice_index first.now j) (texts self.now.names.now) 0 0 }
+        ensures text { text.new ≡ joint (texts self.now.names.now) }
+    {
+        let mut offset = 0;
+        for (j, name) in self.names.iter().enumerate() {
+            let end = offset + name.len();
+            let record = NameRecord {
+                offset: offset as u32,
+                length: name.len() as u32,
+                first: first[j],
+            };
+            write::put_name(&mut table[12 * j..12 * (j + 1)], record);
+            text[offset..end].copy_from_slice(name);
+            offset = end;
+        }
+    }
+
+    // Writes the sheet.
+    #[tactic(auto, using(crate::proofs::Parts::length_sheet, crate::proofs::Fields::joint_le))]
+    fn put(&self, out: &mut [u8])
+        requires { length out.old ≡ length (encoded self.now.elements.now (texts self.now.names.now)) }
+        ensures { out.new ≡ encoded self.now.elements.now (texts self.now.names.now) }
+    {
+        let (header, tables) = out.split_at_mut(32);
+        let (elements, rest) = tables.split_at_mut(16 * self.elements.len());
+        let (names, text) = rest.split_at_mut(12 * self.names.len());
+        write::put_header(
+            header,
+            self.elements.len() as u32,
+            self.names.len() as u32,
+            text.len() as u32,
+        );
+        let first = self.put_elements(elements);
+        self.put_names(&first, names, text);
     }
 }
 
@@ -148,23 +127,14 @@ fn put_texts(out: &mut [u8], mut at: usize, names: &[&[u8]])
 // The elements and names of a lawful tree have a sheet, and it is lawful. Of others the sheet that is written is not:
 // opening it is refused.
 pub fn encode(elements: &[Element], names: &[&[u8]], out: &mut [u8]) -> Result<usize, Fault>
-    ensures answer { result ≡ encodes elements.now (map (λ x. x.now) names.now) (length out.old) }
-    ensures buffer { out.new ≡ written elements.now (map (λ x. x.now) names.now) result out.old }
+    ensures answer { result ≡ encodes elements.now (texts names.now) (length out.old) }
+    ensures buffer { out.new ≡ written elements.now (texts names.now) result out.old }
 {
-    check_fields(elements, names)?;
-    let bytes = joint_length(names);
-    let table = 32 + 16 * elements.len();
-    let text = table + 12 * names.len();
-    let total = text + bytes;
-    if out.len() < total {
-        return Err(Fault {
-            refusal: Refusal::SheetWontFit,
-            place: total,
-        });
+    let contents = Contents::new(elements, names)?;
+    let length = contents.sheet_length();
+    if out.len() < length {
+        return Err(Refusal::SheetWontFit.at(length));
     }
-    put_header(out, elements.len() as u32, names.len() as u32, bytes as u32);
-    let first = put_elements(out, elements);
-    put_names(out, table, names, &first);
-    put_texts(out, text, names);
-    Ok(total)
+    contents.put(&mut out[..length]);
+    Ok(length)
 }

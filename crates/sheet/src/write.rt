@@ -1,58 +1,37 @@
-// Writes numbers and records at an offset among bytes.
-ghost use Rattle.std.specs.Prelude.{◌+◌, ◌*◌, ◌≤◌, length};
-ghost use Rattle.layout.specs.Encoding.{le16, le32, words, element_bytes, name_bytes};
-ghost use Rattle.sheet.specs.Writing.{Puts};
+// Writes the header and the records of a sheet, each into its own bytes.
+ghost use Rattle.std.specs.Prelude.{◌≡◌, ◌+◌, ◌*◌, ◌≤◌, length};
+ghost use Rattle.layout.specs.Encoding.{header_bytes, element_bytes, name_bytes};
 
+use byteorder::{ByteOrder, LittleEndian};
 use layout::NameRecord;
 use tree::Element;
 
-pub(crate) fn put(out: &mut [u8], at: usize, bytes: &[u8])
-    requires { at + length bytes.now ≤ length out.old }
-    ensures { Puts bytes.now out.old at out.new }
+// The header, for so many elements, names and name bytes.
+pub(crate) fn put_header(out: &mut [u8], elements: u32, names: u32, bytes: u32)
+    requires few { (elements ≤ 65535) × (names ≤ 1024) × (bytes ≤ 32768) }
+    requires room { length out.old ≡ 32 }
+    ensures { out.new ≡ header_bytes elements names bytes }
 {
-    out[at..at + bytes.len()].copy_from_slice(bytes);
-}
-
-pub(crate) fn put_u16(out: &mut [u8], at: usize, n: u16)
-    requires { at + 2 ≤ length out.old }
-    ensures { Puts (le16 n) out.old at out.new }
-{
-    put(out, at, &n.to_le_bytes());
-}
-
-pub(crate) fn put_u32(out: &mut [u8], at: usize, n: u32)
-    requires { at + 4 ≤ length out.old }
-    ensures { Puts (le32 n) out.old at out.new }
-{
-    put(out, at, &n.to_le_bytes());
-}
-
-// Numbers, one after the other.
-pub(crate) fn put_words(out: &mut [u8], at: usize, numbers: &[u32])
-    requires { at + 4 * length numbers.now ≤ length out.old }
-    ensures { Puts (words numbers.now) out.old at out.new }
-{
-    for (i, n) in numbers.iter().enumerate() {
-        put_u32(out, at + 4 * i, *n);
-    }
+    let table = 32 + 16 * elements;
+    let text = table + 12 * names;
+    let numbers = [1, elements, names, 32, table, text, bytes, text + bytes];
+    LittleEndian::write_u32_into(&numbers, out);
 }
 
 // The record of an element.
-pub(crate) fn put_element(out: &mut [u8], at: usize, e: Element, next: u32)
-    requires { at + 16 ≤ length out.old }
-    ensures { Puts (element_bytes e next) out.old at out.new }
+pub(crate) fn put_element(out: &mut [u8], e: Element, next: u32)
+    requires { length out.old ≡ 16 }
+    ensures { out.new ≡ element_bytes e next }
 {
-    put_u32(out, at, e.start);
-    put_u32(out, at + 4, e.end);
-    put_u16(out, at + 8, e.level);
-    put_u16(out, at + 10, e.name);
-    put_u32(out, at + 12, next);
+    LittleEndian::write_u32_into(&[e.start, e.end], &mut out[..8]);
+    LittleEndian::write_u16_into(&[e.level, e.name], &mut out[8..12]);
+    LittleEndian::write_u32_into(&[next], &mut out[12..16]);
 }
 
 // The record of a name.
-pub(crate) fn put_name(out: &mut [u8], at: usize, name: NameRecord)
-    requires { at + 12 ≤ length out.old }
-    ensures { Puts (name_bytes name.offset name.length name.first) out.old at out.new }
+pub(crate) fn put_name(out: &mut [u8], name: NameRecord)
+    requires { length out.old ≡ 12 }
+    ensures { out.new ≡ name_bytes name.offset name.length name.first }
 {
-    put_words(out, at, &[name.offset, name.length, name.first]);
+    LittleEndian::write_u32_into(&[name.offset, name.length, name.first], out);
 }

@@ -1,23 +1,33 @@
-use Rattle.std.proofs.Common.{map, length, sym, ◌∙◌, arith}
-use Rattle.std.proofs.lemmas.List.{length-map}
-use Rattle.std.proofs.lemmas.Result.{err_from_is_err_and}
-use Rattle.sheet.proofs.Fields.{names_many, counts_fit, then_granted, then_refused}
+use Rattle.std.proofs.Common.{length, rules, tests, sym, ◌∙◌, arith}
+use Rattle.std.proofs.lemmas.Iterator.{YieldsList-from_slice}
+use Rattle.std.proofs.lemmas.Iterator.Search.{position_from_yields_List}
+use Rattle.sheet.proofs.Fields.{misnumbered, long, names_many, number_refused, name_refused, none_refused}
 use Rattle.sheet.proofs.encoder.check_fields.Goals as goal
 
 pub returns-then-names-gt-MOST_NAMES : goal.returns-then-names-gt-MOST_NAMES
 returns-then-names-gt-MOST_NAMES c =
-    let xs = c.args.names.now in
-    sym (names_many c.args.elements.now (map (λ x. x.now) xs) (length xs) (length-map xs (λ x. x.now)) (omega arith) (omega arith))
+    rw c.at-then-names-gt-MOST_NAMES.ensures (sym (names_many c.args.elements.now c.args.names.now (omega arith) (omega arith)))
 
-pub returns-in_err-check_numbers : goal.returns-in_err-check_numbers
-returns-in_err-check_numbers c =
+pub returns-in-Some : goal.returns-in-Some
+returns-in-Some c =
+    let es = c.args.elements.now in
     let xs = c.args.names.now in
-    let e = counts_fit c.args.elements.now (map (λ x. x.now) xs) (length xs) (length-map xs (λ x. x.now)) (omega arith) (omega arith) in
-    let p = err_from_is_err_and c.from_residual.result c.from_residual.ensures.1 in
-    rw (p.1, p.2) (then_refused _ _ _ c.in_err-check_numbers.ensures ∙ sym e)
+    let p = position_from_yields_List (misnumbered (length xs)) _ _ c.position.result c.position.ensures.ran (YieldsList-from_slice es cc) (λ x b q k. search (rules, tests)) in
+    rw c.at-in-Some.ensures (sym (number_refused es xs (omega arith) (omega arith) c.in-Some.k (sym p ∙ c.in-Some.is)))
+
+pub returns-in-Some-position : goal.returns-in-Some-position
+returns-in-Some-position c =
+    let es = c.args.elements.now in
+    let xs = c.args.names.now in
+    let p = position_from_yields_List (misnumbered (length xs)) _ _ c.position.result c.position.ensures.ran (YieldsList-from_slice es cc) (λ x b q k. search (rules, tests)) in
+    let q = position_from_yields_List long _ _ c.position-2.result c.position-2.ensures.ran (YieldsList-from_slice xs cc) (λ x b q k. search (rules, tests)) in
+    rw c.at-in-Some-position.ensures
+    (sym (name_refused es xs (omega arith) (omega arith) (sym p ∙ c.in_default.is) c.in-Some-position.j (sym q ∙ c.in-Some-position.is)))
 
 pub returns : goal.returns
 returns c =
+    let es = c.args.elements.now in
     let xs = c.args.names.now in
-    let e = counts_fit c.args.elements.now (map (λ x. x.now) xs) (length xs) (length-map xs (λ x. x.now)) (omega arith) (omega arith) in
-    c.check_lengths.ensures ∙ (then_granted _ _ _ c.in_ok-check_numbers.ensures ∙ sym e)
+    let p = position_from_yields_List (misnumbered (length xs)) _ _ c.position.result c.position.ensures.ran (YieldsList-from_slice es cc) (λ x b q k. search (rules, tests)) in
+    let q = position_from_yields_List long _ _ c.position-2.result c.position-2.ensures.ran (YieldsList-from_slice xs cc) (λ x b q k. search (rules, tests)) in
+    sym (none_refused es xs (omega arith) (omega arith) (sym p ∙ c.in_default.is) (sym q ∙ c.in_default-position.is))

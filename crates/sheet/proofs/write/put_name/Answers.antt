@@ -3,4 +3,4 @@ use Rattle.sheet.proofs.write.put_name.Goals as goal
 
 pub returns : goal.returns
 unfolding le32
-returns c = c.put_words.ensures
+returns c = c.write_u32_into.ensures
