@@ -1,11 +1,11 @@
 -- Which elements and names the fields of a sheet can hold.
-use Rattle.std.proofs.Common.{◌≡◌, ℕ, zero, suc, ◌+◌, ◌*◌, ◌<◌, ◌≤◌, Bool, true, false, cond, ltb, leb, List, [], ◌∷◌, ◌++◌, length, All, sum_by, flat_map, get_or, Option, Some, None, Ok, Err, Result, Bor, sym, refl, ap, ◌∙◌, mul-add, arith}
-use Rattle.std.proofs.lemmas.Bool.{lt-ltb, le-ltb, ltb-false, leb-false, lt-leb, cond-true, cond-false}
+use Rattle.std.proofs.Common.{◌≡◌, ℕ, zero, suc, ◌+◌, ◌*◌, ◌<◌, ◌≤◌, Bool, true, false, cond, ltb, leb, List, [], ◌∷◌, ◌++◌, length, All, sum_by, flat_map, get_or, Option, Some, None, Ok, Err, Result, Bor, sym, refl, ap, ◌∙◌, ⊎_elim, mul-add, arith}
+use Rattle.std.proofs.lemmas.Bool.{cases_Bool, lt-ltb, le-ltb, ltb-false, leb-false, lt-leb, cond-true, cond-false}
 use Rattle.std.proofs.lemmas.Iterator.Adapters.{position_from-zero}
 use Rattle.std.proofs.lemmas.List.{length-map}
 use Rattle.std.proofs.lemmas.List.Concat.{length-flat_map}
-use Rattle.std.proofs.lemmas.List.Sums.{sum_by-le}
-use Rattle.std.specs.List.{position, position_from}
+use Rattle.std.proofs.lemmas.List.Sums.{fails_before_first, sum_by-le}
+use Rattle.std.specs.List.{position, position_from, position_or_len}
 use Rattle.markup.specs.declared.fault.Fault.{Fault}
 use Rattle.markup.specs.declared.fault.Refusal.{Refusal}
 use Rattle.markup.specs.declared.fault.Refusal.TheVariants.{HeaderField, ElementRecord, NameRecord}
@@ -14,22 +14,8 @@ use Rattle.tree.specs.declared.element.Element.{Element}
 use Rattle.layout.specs.Encoding.{blank, joint}
 use Rattle.sheet.specs.Writing.{texts, each_fits, numbers_fit, names_fit, fields_fit}
 
--- where a test refuses, it was false of what is granted
-granted : (b : Bool) (r : Result (Unit {0}) Fault) (f : Fault) → cond b (Err f) r ≡ Ok tt → (b ≡ false) × (r ≡ Ok tt)
-granted true r f e = let z : ◌≡◌ {A = ℕ} 0 1 = cc in absurd (omega arith)
-granted false r f e = (refl, e)
-
-both : (r k : Result (Unit {0}) Fault) → and_then r (λ _. k) ≡ Ok tt → (r ≡ Ok tt) × (k ≡ Ok tt)
-both (Ok tt) k e = (refl, e)
-both (Err f) k e = let z : ◌≡◌ {A = ℕ} 0 1 = cc in absurd (omega arith)
-
 module _ {A : Type 0} (p : A → Bool) (r : Refusal) (size : ℕ) where
-  -- all fit exactly where none is too large
-  none_too_large : (xs : List A) (o : ℕ) → each_fits p r size xs o ≡ Ok tt → (d : A) (k : ℕ) → k < length xs → p (get_or xs k d) ≡ false
-  none_too_large [] o h d k l = absurd (omega arith)
-  none_too_large (x ∷ xs) o h d zero l = (granted _ _ _ h).0
-  none_too_large (x ∷ xs) o h d (suc k) l = none_too_large xs (o + size) (granted _ _ _ h).1 d k (omega arith)
-
+  -- all fit where none is too large
   all_fit : (xs : List A) (o : ℕ) (d : A) → ((k : ℕ) → k < length xs → p (get_or xs k d) ≡ false) → each_fits p r size xs o ≡ Ok tt
   all_fit [] o d h = refl
   all_fit (x ∷ xs) o d h = cond-false _ _ _ (h 0 (omega arith)) ∙ all_fit xs (o + size) d (λ k l. h (suc k) (omega arith))
@@ -67,27 +53,6 @@ lent_fit (x ∷ xs) o = ap (cond (long x) (Err (fault NameRecord o))) (lent_fit 
 abbrev pub misnumbered : ℕ → Element → Bool
 misnumbered n e = leb n e.name
 
-pub record Roomy (es : List Element) (xs : List (Bor (List ℕ))) : Type 0 where
-  pub few_elements : length es ≤ 65535
-  pub few_names : length xs ≤ 1024
-  pub numbered : All (λ e. e.name < length xs) es
-  pub short : All (λ x. length x.now ≤ 32) xs
-
-pub roomy : (es : List Element) (xs : List (Bor (List ℕ))) → fields_fit es (texts xs) ≡ Ok tt → Roomy es xs
-roomy es xs h =
-    let n = length-texts xs in
-    let a = granted _ _ _ h in
-    let b = granted _ _ _ a.1 in
-    let c = both (numbers_fit (length (texts xs)) es 32) (names_fit (texts xs) (32 + 16 * length es)) b.1 in
-    let few : length (texts xs) ≤ 1024 = ltb-false _ _ b.0 in
-    record {
-      few_elements = ltb-false _ _ a.0;
-      few_names = omega arith;
-      numbered = λ k d l. leb-false (length xs) _ (none_too_large (misnumbered (length xs)) ElementRecord 16 es 32 (rw n at c.0) d k l);
-      short = λ k d l. ltb-false _ _ (none_too_large long NameRecord 12 xs (32 + 16 * length es) (sym (lent_fit xs (32 + 16 * length es)) ∙ c.1) d k l);
-    }
-
--- What is roomy is granted.
 pub fields_fit_lem : (es : List Element) (ts : List (List ℕ)) → length es ≤ 65535 → length ts ≤ 1024 → ((k : ℕ) → k < length es → (get_or es k blank).name < length ts)
     → ((j : ℕ) → j < length ts → length (get_or ts j []) ≤ 32) → fields_fit es ts ≡ Ok tt
 fields_fit_lem es ts few few_names named short =
@@ -104,29 +69,25 @@ names_by : (xs : List (Bor (List ℕ))) (o : ℕ) (j : Option ℕ) → position 
     → names_fit (texts xs) o ≡ refused_at long NameRecord 12 o j
 names_by xs o j p = lent_fit xs o ∙ (fit_by long NameRecord 12 xs o ∙ ap (refused_at long NameRecord 12 o) p)
 
-module _ (es : List Element) (xs : List (Bor (List ℕ))) (few : length es ≤ 65535) where
-  pub names_many : 1024 < length xs → fields_fit es (texts xs) ≡ Err (fault HeaderField 8)
-  names_many l = cond-false _ _ _ (le-ltb _ _ few) ∙ cond-true _ _ _ (lt-ltb 1024 (length (texts xs)) (omega (arith, length-texts xs)))
+module _ (es : List Element) (xs : List (Bor (List ℕ))) (few : length es ≤ 65535) (few_names : length xs ≤ 1024) where
+  counts_fit : fields_fit es (texts xs) ≡ and_then (numbers_fit (length xs) es 32) (λ _. names_fit (texts xs) (32 + 16 * length es))
+  counts_fit =
+      cond-false _ _ _ (le-ltb _ _ few)
+      ∙ (cond-false _ _ _ (le-ltb 1024 (length (texts xs)) (omega (arith, length-texts xs)))
+      ∙ ap (λ (n : ℕ). and_then (numbers_fit n es 32) (λ _. names_fit (texts xs) (32 + 16 * length es))) (length-texts xs))
 
-  module _ (few_names : length xs ≤ 1024) where
-    counts_fit : fields_fit es (texts xs) ≡ and_then (numbers_fit (length xs) es 32) (λ _. names_fit (texts xs) (32 + 16 * length es))
-    counts_fit =
-        cond-false _ _ _ (le-ltb _ _ few)
-        ∙ (cond-false _ _ _ (le-ltb 1024 (length (texts xs)) (omega (arith, length-texts xs)))
-        ∙ ap (λ (n : ℕ). and_then (numbers_fit n es 32) (λ _. names_fit (texts xs) (32 + 16 * length es))) (length-texts xs))
+  pub number_refused : (k : ℕ) → position (misnumbered (length xs)) es ≡ Some k → fields_fit es (texts xs) ≡ Err (fault ElementRecord (32 + 16 * k))
+  unfolding refused_at
+  number_refused k p = counts_fit ∙ rw (numbers_by (length xs) es (Some k) p) refl
 
-    pub number_refused : (k : ℕ) → position (misnumbered (length xs)) es ≡ Some k → fields_fit es (texts xs) ≡ Err (fault ElementRecord (32 + 16 * k))
+  module _ (numbered : position (misnumbered (length xs)) es ≡ None) where
+    pub name_refused : (j : ℕ) → position long xs ≡ Some j → fields_fit es (texts xs) ≡ Err (fault NameRecord (32 + 16 * length es + 12 * j))
     unfolding refused_at
-    number_refused k p = counts_fit ∙ rw (numbers_by (length xs) es (Some k) p) refl
+    name_refused j p = counts_fit ∙ rw (numbers_by (length xs) es None numbered, names_by xs (32 + 16 * length es) (Some j) p) refl
 
-    module _ (named : position (misnumbered (length xs)) es ≡ None) where
-      pub name_refused : (j : ℕ) → position long xs ≡ Some j → fields_fit es (texts xs) ≡ Err (fault NameRecord (32 + 16 * length es + 12 * j))
-      unfolding refused_at
-      name_refused j p = counts_fit ∙ rw (numbers_by (length xs) es None named, names_by xs (32 + 16 * length es) (Some j) p) refl
-
-      pub none_refused : position long xs ≡ None → fields_fit es (texts xs) ≡ Ok tt
-      unfolding refused_at
-      none_refused p = counts_fit ∙ rw (numbers_by (length xs) es None named, names_by xs (32 + 16 * length es) None p) refl
+    pub none_refused : position long xs ≡ None → fields_fit es (texts xs) ≡ Ok tt
+    unfolding refused_at
+    none_refused p = counts_fit ∙ rw (numbers_by (length xs) es None numbered, names_by xs (32 + 16 * length es) None p) refl
 
 -- The length of all names.
 

@@ -129,10 +129,10 @@ names_same f g (t ∷ ts) j o e h =
     rw (p, q) refl
 
 -- a sheet is its header, its tables and the names' bytes
-pub sheet_of_parts : (es : List Element) (xs : List (Bor (List ℕ))) (f : ℕ → ℕ) (c : ℕ) (header elements names text : List ℕ)
-    → length xs ≤ 1024 → c ≡ length (joint (texts xs)) → ((n : ℕ) → n < 1024 → f n ≡ seek n es 0)
-    → header ≡ header_bytes (length es) (length xs) c → elements ≡ element_table es 0 → names ≡ name_table f (texts xs) 0 0 → text ≡ joint (texts xs)
+pub sheet_of_parts : (es : List Element) (xs : List (Bor (List ℕ))) (f : ℕ → ℕ) (header elements names text : List ℕ)
+    → length xs ≤ 1024 → ((n : ℕ) → n < 1024 → f n ≡ seek n es 0) → header ≡ header_bytes (length es) (length xs) (length (joint (texts xs)))
+    → elements ≡ element_table es 0 → names ≡ name_table f (texts xs) 0 0 → text ≡ joint (texts xs)
     → header ++ (elements ++ (names ++ text)) ≡ encoded es (texts xs)
-sheet_of_parts es xs f c header elements names text few n first p q r s =
+sheet_of_parts es xs f header elements names text few first p q r s =
     let same : name_table f (texts xs) 0 0 ≡ name_table (λ j. seek j es 0) (texts xs) 0 0 = names_same f (λ j. seek j es 0) (texts xs) 0 0 first (omega (arith, length-texts xs)) in
-    rw (p, q, r, s, same, n, ← length-texts xs) refl
+    rw (p, q, r, s, same, ← length-texts xs) refl

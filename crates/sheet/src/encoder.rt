@@ -1,32 +1,15 @@
 // Writes the sheet of elements and names.
-ghost use Rattle.std.specs.Prelude.{◌≡◌, ℕ, ◌+◌, ◌*◌, ◌<◌, ◌≤◌, MatchResult, All, length, slice_index};
-ghost use Rattle.layout.specs.Encoding.{seek, element_table, name_table, joint, encoded};
+ghost use Rattle.std.specs.Prelude.{◌≡◌, ℕ, ◌+◌, ◌*◌, ◌<◌, ◌≤◌, Ok, IfOk, All, length, slice_index};
+ghost use Rattle.markup.specs.Faults.{and_then};
+ghost use Rattle.layout.specs.Encoding.{seek, header_bytes, element_table, name_table, joint, encoded};
 ghost use Rattle.sheet.specs.Writing.{texts, fields_fit, encodes, written};
 
 use crate::write;
+use byteorder::{ByteOrder, LittleEndian};
 use layout::NameRecord;
 use markup::{Fault, Refusal, name};
 use tree::Element;
 use tree::limits::{MOST_ELEMENTS, MOST_NAMES};
-
-// Whether a sheet's fields can hold these elements and names; else the first field or record that would be wrong.
-fn check_fields(elements: &[Element], names: &[&[u8]]) -> Result<(), Fault>
-    ensures { result ≡ fields_fit elements.now (texts names.now) }
-{
-    if elements.len() > MOST_ELEMENTS {
-        return Err(Refusal::HeaderField.at(4));
-    }
-    if names.len() > MOST_NAMES {
-        return Err(Refusal::HeaderField.at(8));
-    }
-    if let Some(k) = elements.iter().position(|e| e.name as usize >= names.len()) {
-        return Err(Refusal::ElementRecord.at(32 + 16 * k));
-    }
-    if let Some(j) = names.iter().position(|n| n.len() > name::MOST_BYTES) {
-        return Err(Refusal::NameRecord.at(32 + 16 * elements.len() + 12 * j));
-    }
-    Ok(())
-}
 
 // Elements and names that a sheet's fields can hold.
 #[derive(Clone, Copy)]
@@ -40,10 +23,23 @@ struct Contents<'a> {
 }
 
 impl<'a> Contents<'a> {
+    // The fault is the first field or record that would be wrong.
     fn new(elements: &'a [Element], names: &'a [&'a [u8]]) -> Result<Contents<'a>, Fault>
-        ensures { MatchResult result (λ c. (fields_fit elements.now (texts names.now) ≡ Ok tt) × (c.elements.now ≡ elements.now) × (c.names.now ≡ names.now)) (λ f. fields_fit elements.now (texts names.now) ≡ Err f) }
+        ensures fits { and_then result (λ _. Ok tt) ≡ fields_fit elements.now (texts names.now) }
+        ensures same { IfOk result (λ c. (c.elements.now ≡ elements.now) × (c.names.now ≡ names.now)) }
     {
-        check_fields(elements, names)?;
+        if elements.len() > MOST_ELEMENTS {
+            return Err(Refusal::HeaderField.at(4));
+        }
+        if names.len() > MOST_NAMES {
+            return Err(Refusal::HeaderField.at(8));
+        }
+        if let Some(k) = elements.iter().position(|e| e.name as usize >= names.len()) {
+            return Err(Refusal::ElementRecord.at(32 + 16 * k));
+        }
+        if let Some(j) = names.iter().position(|n| n.len() > name::MOST_BYTES) {
+            return Err(Refusal::NameRecord.at(32 + 16 * elements.len() + 12 * j));
+        }
         Ok(Contents { elements, names })
     }
 
@@ -60,6 +56,21 @@ impl<'a> Contents<'a> {
         ensures { result ≡ length (encoded self.now.elements.now (texts self.now.names.now)) }
     {
         32 + 16 * self.elements.len() + 12 * self.names.len() + self.joint_length()
+    }
+
+    // Writes the header.
+    #[tactic(auto, using(crate::proofs::Fields::joint_le), unfolding(layout::specs::Encoding::le32))]
+    fn put_header(&self, out: &mut [u8])
+        requires { length out.old ≡ 32 }
+        ensures { out.new ≡ header_bytes (length self.now.elements.now) (length self.now.names.now) (length (joint (texts self.now.names.now))) }
+    {
+        let elements = self.elements.len() as u32;
+        let names = self.names.len() as u32;
+        let bytes = self.joint_length() as u32;
+        let table = 32 + 16 * elements;
+        let text = table + 12 * names;
+        let numbers = [1, elements, names, 32, table, text, bytes, text + bytes];
+        LittleEndian::write_u32_into(&numbers, out);
     }
 
     // Writes the element table, in one pass from the back that knows the nearest element of each name. Answers each
@@ -85,6 +96,7 @@ impl<'a> Contents<'a> {
         ensures table { table.new ≡ name_table (λ j. slice_index first.now j) (texts self.now.names.now) 0 0 }
         ensures text { text.new ≡ joint (texts self.now.names.now) }
     {
+        // Where the next name's bytes begin, which its record tells.
         let mut offset = 0;
         for (j, name) in self.names.iter().enumerate() {
             let end = offset + name.len();
@@ -108,12 +120,7 @@ impl<'a> Contents<'a> {
         let (header, tables) = out.split_at_mut(32);
         let (elements, rest) = tables.split_at_mut(16 * self.elements.len());
         let (names, text) = rest.split_at_mut(12 * self.names.len());
-        write::put_header(
-            header,
-            self.elements.len() as u32,
-            self.names.len() as u32,
-            text.len() as u32,
-        );
+        self.put_header(header);
         let first = self.put_elements(elements);
         self.put_names(&first, names, text);
     }

@@ -1,22 +1,10 @@
-// Writes the header and the records of a sheet, each into its own bytes.
-ghost use Rattle.std.specs.Prelude.{◌≡◌, ◌+◌, ◌*◌, ◌≤◌, length};
-ghost use Rattle.layout.specs.Encoding.{header_bytes, element_bytes, name_bytes};
+// Writes the records of a sheet, each into its own bytes.
+ghost use Rattle.std.specs.Prelude.{◌≡◌, length};
+ghost use Rattle.layout.specs.Encoding.{element_bytes, name_bytes};
 
 use byteorder::{ByteOrder, LittleEndian};
 use layout::NameRecord;
 use tree::Element;
-
-// The header, for so many elements, names and name bytes.
-pub(crate) fn put_header(out: &mut [u8], elements: u32, names: u32, bytes: u32)
-    requires few { (elements ≤ 65535) × (names ≤ 1024) × (bytes ≤ 32768) }
-    requires room { length out.old ≡ 32 }
-    ensures { out.new ≡ header_bytes elements names bytes }
-{
-    let table = 32 + 16 * elements;
-    let text = table + 12 * names;
-    let numbers = [1, elements, names, 32, table, text, bytes, text + bytes];
-    LittleEndian::write_u32_into(&numbers, out);
-}
 
 // The record of an element.
 pub(crate) fn put_element(out: &mut [u8], e: Element, next: u32)
@@ -29,6 +17,7 @@ pub(crate) fn put_element(out: &mut [u8], e: Element, next: u32)
 }
 
 // The record of a name.
+#[tactic(auto, unfolding(layout::specs::Encoding::le32))]
 pub(crate) fn put_name(out: &mut [u8], name: NameRecord)
     requires { length out.old ≡ 12 }
     ensures { out.new ≡ name_bytes name.offset name.length name.first }
