@@ -1,14 +1,14 @@
 -- Which elements and names the fields of a sheet can hold.
-use Rattle.std.proofs.Common.{◌≡◌, ℕ, zero, suc, ◌+◌, ◌*◌, ◌<◌, ◌≤◌, Bool, true, false, cond, ltb, leb, List, [], ◌∷◌, ◌++◌, length, All, sum_by, flat_map, get_or, Option, Some, None, Ok, Err, Result, Bor, sym, refl, ap, ◌∙◌, ⊎_elim, mul-add, arith}
-use Rattle.std.proofs.lemmas.Bool.{cases_Bool, lt-ltb, le-ltb, ltb-false, leb-false, lt-leb, cond-true, cond-false}
+use Rattle.std.proofs.Common.{◌≡◌, ℕ, suc, ◌+◌, ◌*◌, ◌<◌, ◌≤◌, Bool, true, false, cond, ltb, leb, List, [], ◌∷◌, ◌++◌, length, All, sum_by, flat_map, get_or, Option, Some, None, Ok, Err, Result, Bor, sym, refl, ap, ◌∙◌, mul-add, arith}
+use Rattle.std.proofs.lemmas.Bool.{le-ltb, lt-leb, cond-false}
 use Rattle.std.proofs.lemmas.Iterator.Adapters.{position_from-zero}
 use Rattle.std.proofs.lemmas.List.{length-map}
 use Rattle.std.proofs.lemmas.List.Concat.{length-flat_map}
-use Rattle.std.proofs.lemmas.List.Sums.{fails_before_first, sum_by-le}
-use Rattle.std.specs.List.{position, position_from, position_or_len}
+use Rattle.std.proofs.lemmas.List.Sums.{sum_by-le}
+use Rattle.std.specs.List.{position, position_from}
 use Rattle.markup.specs.declared.fault.Fault.{Fault}
 use Rattle.markup.specs.declared.fault.Refusal.{Refusal}
-use Rattle.markup.specs.declared.fault.Refusal.TheVariants.{HeaderField, ElementRecord, NameRecord}
+use Rattle.markup.specs.declared.fault.Refusal.TheVariants.{ElementRecord, NameRecord}
 use Rattle.markup.specs.Faults.{fault, and_then}
 use Rattle.tree.specs.declared.element.Element.{Element}
 use Rattle.layout.specs.Encoding.{blank, joint}

@@ -90,6 +90,7 @@ impl<'a> Contents<'a> {
     }
 
     // Writes the name table and the names' bytes.
+    #[tactic(auto, using(crate::proofs::Fields::joint_le, crate::proofs::Parts::offset_within))]
     fn put_names(&self, first: &[u32; MOST_NAMES], table: &mut [u8], text: &mut [u8])
         requires table { length table.old ≡ 12 * length self.now.names.now }
         requires text { length text.old ≡ length (joint (texts self.now.names.now)) }

@@ -7,13 +7,16 @@ use layout::NameRecord;
 use tree::Element;
 
 // The record of an element.
+#[tactic(auto, unfolding(layout::specs::Encoding::le16, layout::specs::Encoding::le32))]
 pub(crate) fn put_element(out: &mut [u8], e: Element, next: u32)
     requires { length out.old ≡ 16 }
     ensures { out.new ≡ element_bytes e next }
 {
-    LittleEndian::write_u32_into(&[e.start, e.end], &mut out[..8]);
-    LittleEndian::write_u16_into(&[e.level, e.name], &mut out[8..12]);
-    LittleEndian::write_u32_into(&[next], &mut out[12..16]);
+    LittleEndian::write_u32(out, e.start);
+    LittleEndian::write_u32(&mut out[4..], e.end);
+    LittleEndian::write_u16(&mut out[8..], e.level);
+    LittleEndian::write_u16(&mut out[10..], e.name);
+    LittleEndian::write_u32(&mut out[12..], next);
 }
 
 // The record of a name.

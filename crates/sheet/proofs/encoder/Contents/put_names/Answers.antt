@@ -1,17 +1,6 @@
 use Rattle.std.proofs.Common.{[], arith, get_or, Bor, List, ℕ}
-use Rattle.sheet.proofs.Fields.{joint_le}
 use Rattle.sheet.proofs.Parts.{offset_more, offset_within, text_more, names_more}
 use Rattle.sheet.proofs.encoder.Contents.put_names.Goals as goal
-
-pub overflow_cast-record : goal.overflow_cast-record
-overflow_cast-record c =
-    let s = c.args.self.now in
-    omega (arith, offset_within s.names.now c.loop-j.j c.loop-j.offset (record { ref_ptr = (0, 0); now = [] }) c.loop-j-test.true c.loop-j.invariant.offset, joint_le s.names.now s.few_names s.short)
-
-pub slice_bounds-copy_from_slice-end : goal.slice_bounds-copy_from_slice-end
-slice_bounds-copy_from_slice-end c =
-    let s = c.args.self.now in
-    omega (arith, offset_within s.names.now c.loop-j.j c.loop-j.offset (record { ref_ptr = (0, 0); now = [] }) c.loop-j-test.true c.loop-j.invariant.offset)
 
 pub loop-j-preserved : goal.loop-j-preserved
 loop-j-preserved c =
