@@ -1,6 +1,6 @@
 -- The tables of a sheet: how long they are, and what they begin with from one of their records on.
 use Rattle.std.proofs.Common.{◌≡◌, ℕ, zero, suc, ◌+◌, ◌*◌, ◌<◌, ◌≤◌, cond, eqb, List, [], ◌∷◌, ◌++◌, length, get_or, take, drop, sym, refl, ap, ◌∙◌, arith}
-use Rattle.std.proofs.lemmas.List.{length-append, drop_at, drop-drop, at_drop_more}
+use Rattle.std.proofs.lemmas.List.{append_assoc, append-nil, length-append, drop_at, drop-drop, at_drop_more}
 use Rattle.tree.specs.declared.element.Element.{Element}
 use Rattle.layout.specs.Encoding.{blank, seek, le16, le32, element_bytes, element_table, name_bytes, name_table, header_bytes, joint, encoded}
 
@@ -46,12 +46,11 @@ length-encoded es ts =
 
 -- The names' bytes.
 
-pub joint_more : (ts : List (List ℕ)) (i : ℕ) → i < length ts → joint (drop i ts) ≡ get_or ts i [] ++ joint (drop (i + 1) ts)
-joint_more ts i h = at_drop_more joint ts i [] h
-
-pub length_joint_more : (ts : List (List ℕ)) (i : ℕ) → i < length ts
-    → length (joint (drop i ts)) ≡ length (get_or ts i []) + length (joint (drop (i + 1) ts))
-length_joint_more ts i h = ap length (joint_more ts i h) ∙ length-append (get_or ts i []) (joint (drop (i + 1) ts))
+-- one name more
+pub joint_take : (ts : List (List ℕ)) (k : ℕ) → k < length ts → joint (take (suc k) ts) ≡ joint (take k ts) ++ get_or ts k []
+joint_take [] k h = absurd (omega arith)
+joint_take (t ∷ ts) zero h = append-nil t
+joint_take (t ∷ ts) (suc k) h = ap (λ (bs : List ℕ). t ++ bs) (joint_take ts k (omega arith)) ∙ sym (append_assoc t (joint (take k ts)) (get_or ts k []))
 
 pub length_joint_halves : (ts : List (List ℕ)) (k : ℕ) → length (joint (take k ts)) + length (joint (drop k ts)) ≡ length (joint ts)
 length_joint_halves ts zero = omega arith
@@ -60,10 +59,7 @@ length_joint_halves (t ∷ ts) (suc k) =
     omega (arith, length_joint_halves ts k, length-append t (joint (take k ts)), length-append t (joint ts))
 
 pub length_joint_take : (ts : List (List ℕ)) (k : ℕ) → k < length ts → length (joint (take (suc k) ts)) ≡ length (joint (take k ts)) + length (get_or ts k [])
-length_joint_take [] k h = absurd (omega arith)
-length_joint_take (t ∷ ts) zero h = length-append t [] ∙ omega arith
-length_joint_take (t ∷ ts) (suc k) h =
-    length-append t (joint (take (suc k) ts)) ∙ omega (arith, length_joint_take ts k (omega arith), length-append t (joint (take k ts)))
+length_joint_take ts k h = ap length (joint_take ts k h) ∙ length-append (joint (take k ts)) (get_or ts k [])
 
 pub length_joint_bounds : (ts : List (List ℕ)) → ((j : ℕ) → j < length ts → (1 ≤ length (get_or ts j [])) × (length (get_or ts j []) ≤ 32))
     → (length ts ≤ length (joint ts)) × (length (joint ts) ≤ 32 * length ts)
@@ -110,3 +106,17 @@ drop-joint (t ∷ ts) (suc k) =
     let w = joint (take k ts) in
     let p = length-append t w in
     rw p (sym (drop-drop (length w) (length t) (t ++ joint ts)) ∙ (ap (drop (length w)) (drop_at t (joint ts) (length t) refl) ∙ drop-joint ts k))
+
+-- The name table, one name more.
+
+pub names_take : (f : ℕ → ℕ) (ts : List (List ℕ)) (k j o : ℕ) → k < length ts
+    → name_table f (take (suc k) ts) j o ≡ name_table f (take k ts) j o ++ name_bytes (o + length (joint (take k ts))) (length (get_or ts k [])) (f (j + k))
+names_take f [] k j o h = absurd (omega arith)
+names_take f (t ∷ ts) zero j o h = let a : o + 0 ≡ o = omega arith in let b : j + 0 ≡ j = omega arith in rw (a, b) (append-nil (name_bytes o (length t) (f j)))
+names_take f (t ∷ ts) (suc k) j o h =
+    let a : o + length t + length (joint (take k ts)) ≡ o + length (t ++ joint (take k ts)) = omega (arith, length-append t (joint (take k ts))) in
+    let b : j + 1 + k ≡ j + suc k = omega arith in
+    let n = name_bytes o (length t) (f j) in
+    let r = name_table f (take k ts) (j + 1) (o + length t) in
+    let w = name_bytes (o + length (t ++ joint (take k ts))) (length (get_or ts k [])) (f (j + suc k)) in
+    ap (λ (bs : List ℕ). n ++ bs) (names_take f ts k (j + 1) (o + length t) (omega arith) ∙ rw (a, b) refl) ∙ sym (append_assoc n r w)

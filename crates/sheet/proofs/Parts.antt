@@ -1,13 +1,13 @@
 -- The tables of a sheet, as they are written record by record.
-use Rattle.std.proofs.Common.{◌≡◌, ℕ, zero, suc, ◌+◌, ◌-◌, ◌*◌, ◌<◌, ◌≤◌, true, false, eqb, ◌≢◌, List, [], ◌∷◌, ◌++◌, length, get_or, take, drop, set, replicate, Bor, sym, refl, ap, ◌∙◌, ⊎_elim, add-one, zero-add, arith}
-use Rattle.std.proofs.lemmas.List.{append_assoc, append-nil, length-append, length-take-le, take_at, drop_at, drop-drop, take-take, get_or-take, at_drop_more, drop_all, get_or-replicate, get_or-set_same, get_or-set_other, get_or-map}
+use Rattle.std.proofs.Common.{◌≡◌, ℕ, ◌+◌, ◌-◌, ◌*◌, ◌<◌, ◌≤◌, true, false, eqb, ◌≢◌, List, [], ◌∷◌, ◌++◌, length, get_or, take, drop, set, replicate, Bor, sym, refl, ap, ◌∙◌, ⊎_elim, add-one, zero-add, arith}
+use Rattle.std.proofs.lemmas.List.{length-append, length-take-le, take_at, drop_at, drop-drop, take-take, get_or-take, at_drop_more, drop_all, get_or-replicate, get_or-set_same, get_or-set_other, get_or-map}
 use Rattle.std.proofs.Math.Seq.{get_or-append_seam}
 use Rattle.std.proofs.lemmas.Slice.{take-put_mid}
 use Rattle.std.proofs.lemmas.Bool.{cases_eq, eq-eqb, ne_eqb, cond-true, cond-false}
 use borrow.Rule.Slice.PartMut.{put_mid}
 use Rattle.tree.specs.declared.element.Element.{Element}
 use Rattle.layout.specs.Encoding.{blank, seek, element_bytes, element_table, name_bytes, name_table, header_bytes, joint, encoded}
-use Rattle.layout.proofs.Tables.{length-name, length-encoded, seek_more, length_joint_halves}
+use Rattle.layout.proofs.Tables.{length-name, length-encoded, joint_take, length_joint_halves, seek_more, names_take}
 use Rattle.sheet.specs.Writing.{texts}
 use Rattle.sheet.proofs.Fields.{length-texts}
 
@@ -66,23 +66,6 @@ module _ (es : List Element) (k m : ℕ) (within : k < length es) (next : m ≡ 
       ∙ (s ∙ (rw (q, r, done, p, is, next) (sym (at_drop_more (λ (xs : List Element). element_table xs k) es k blank within))))
 
 -- The name table and the names' bytes, one name more.
-
-joint_take : (ts : List (List ℕ)) (k : ℕ) → k < length ts → joint (take (suc k) ts) ≡ joint (take k ts) ++ get_or ts k []
-joint_take [] k h = absurd (omega arith)
-joint_take (t ∷ ts) zero h = append-nil t
-joint_take (t ∷ ts) (suc k) h = ap (λ (bs : List ℕ). t ++ bs) (joint_take ts k (omega arith)) ∙ sym (append_assoc t (joint (take k ts)) (get_or ts k []))
-
-names_take : (f : ℕ → ℕ) (ts : List (List ℕ)) (k j o : ℕ) → k < length ts
-    → name_table f (take (suc k) ts) j o ≡ name_table f (take k ts) j o ++ name_bytes (o + length (joint (take k ts))) (length (get_or ts k [])) (f (j + k))
-names_take f [] k j o h = absurd (omega arith)
-names_take f (t ∷ ts) zero j o h = let a : o + 0 ≡ o = omega arith in let b : j + 0 ≡ j = omega arith in rw (a, b) (append-nil (name_bytes o (length t) (f j)))
-names_take f (t ∷ ts) (suc k) j o h =
-    let a : o + length t + length (joint (take k ts)) ≡ o + length (t ++ joint (take k ts)) = omega (arith, length-append t (joint (take k ts))) in
-    let b : j + 1 + k ≡ j + suc k = omega arith in
-    let n = name_bytes o (length t) (f j) in
-    let r = name_table f (take k ts) (j + 1) (o + length t) in
-    let w = name_bytes (o + length (t ++ joint (take k ts))) (length (get_or ts k [])) (f (j + suc k)) in
-    ap (λ (bs : List ℕ). n ++ bs) (names_take f ts k (j + 1) (o + length t) (omega arith) ∙ rw (a, b) refl) ∙ sym (append_assoc n r w)
 
 -- name k, x, whose bytes begin at o
 module _ (xs : List (Bor (List ℕ))) (k o : ℕ) (d : Bor (List ℕ)) (within : k < length xs) (begins : o ≡ length (joint (take k (texts xs)))) where
