@@ -1,11 +1,11 @@
 // Why an input or a call is refused, and where.
-ghost use Rattle.std.specs.Prelude.{◌≡◌};
+ghost use Rattle.std.specs.Prelude.{◌≡◌, ◌++◌, Some, codes, decimal};
 ghost use Rattle.markup.specs.Faults.{fault};
 ghost use Rattle.markup.specs.Number.{number_of};
 ghost use Rattle.markup.specs.declared.fault.Error.TheVariants.{Refused, Memory};
 
-use std::alloc;
 use std::alloc::AllocError;
+use std::{alloc, fmt};
 
 // The refusals of the whole product, each with the number that it is reported under. `docs/REFUSALS.md` says when each
 // comes, and at which place.
@@ -66,6 +66,17 @@ impl Refusal {
 pub struct Fault {
     pub refusal: Refusal,
     pub place: usize,
+}
+
+// As the programs print it: `refused 3 at 6`.
+impl fmt::Display for Fault {
+    ghost output = { λ f. Some (codes "refused " ++ decimal (number_of f.refusal) ++ codes " at " ++ decimal f.place) };
+
+    fn fmt<W: fmt::Write>(&self, f: &mut fmt::Formatter<W>) -> fmt::Result {
+        let number = self.refusal.number();
+        let place = self.place;
+        write!(f, "refused {number} at {place}")
+    }
 }
 
 // What ends a call that allocates: a refusal, or want of memory, which has no number and no place.

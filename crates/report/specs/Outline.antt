@@ -1,5 +1,5 @@
 -- The outline of a book text: a line for each element and then `end`, or only the refusal's line.
-use Rattle.std.specs.Prelude.{◌≡◌, ℕ, List, [], ◌∷◌, ◌++◌, slice_index_or}
+use Rattle.std.specs.Prelude.{◌≡◌, ℕ, List, [], ◌++◌, flat_map, slice_index_or}
 use Rattle.markup.specs.declared.fault.Fault.{Fault}
 use Rattle.markup.specs.declared.fault.Error.{Error}
 use Rattle.markup.specs.declared.fault.Error.TheVariants.{Refused, Memory}
@@ -11,8 +11,7 @@ use Rattle.report.specs.Lines.{element_line, end_line, refusal_line}
 
 -- the lines of these elements, whose names are numbers among `names`
 abbrev pub element_lines : List (List ℕ) → List Element → List ℕ
-element_lines names [] = []
-element_lines names (e ∷ es) = element_line e (slice_index_or names e.name []) ++ element_lines names es
+element_lines names es = flat_map (λ e. element_line e (slice_index_or names e.name [])) es
 
 abbrev pub tree_lines : Tree → List ℕ
 tree_lines t = element_lines t.names t.elements ++ end_line

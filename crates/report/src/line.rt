@@ -2,7 +2,7 @@
 ghost use Rattle.std.specs.Prelude.{◌≡◌, IfOk};
 ghost use Rattle.report.specs.Lines.{element_line, end_line, refusal_line};
 
-use crate::decimal;
+use itoa::Buffer;
 use markup::Fault;
 use std::alloc::{AllocError, Global};
 use tree::Element;
@@ -15,12 +15,11 @@ pub fn element_line(heap: Global, element: Element, name: &[u8]) -> Result<Vec<u
     ensures { IfOk result (λ v. v.items ≡ element_line element name.now) }
 {
     let mut line = Vec::with_capacity(heap, name.len().saturating_add(ROOM))?;
-    decimal::push_decimal(&mut line, element.start)?;
-    line.push(b' ')?;
-    decimal::push_decimal(&mut line, element.end)?;
-    line.push(b' ')?;
-    decimal::push_decimal(&mut line, u32::from(element.level))?;
-    line.push(b' ')?;
+    let mut digits = Buffer::new();
+    for n in [element.start, element.end, u32::from(element.level)] {
+        line.extend_from_slice(digits.format(n).as_bytes())?;
+        line.push(b' ')?;
+    }
     line.extend_from_slice(name)?;
     line.push(b'\n')?;
     Ok(line)
@@ -37,7 +36,5 @@ pub fn end_line(heap: Global) -> Result<Vec<u8>, AllocError>
 pub fn refusal_line(heap: Global, fault: Fault) -> Result<Vec<u8>, AllocError>
     ensures { IfOk result (λ v. v.items ≡ refusal_line fault) }
 {
-    let number = fault.refusal.number();
-    let place = fault.place;
-    Ok(format!(in heap; "refused {number} at {place}\n")?.into_bytes())
+    Ok(format!(in heap; "{fault}\n")?.into_bytes())
 }

@@ -5,21 +5,20 @@ ghost use Rattle.layout.specs.Lawful.{LawfulSheet};
 ghost use Rattle.report.specs.Outline.{tree_lines, Tells, Outlined};
 
 use crate::line;
+use layout::LONGEST_SHEET;
 use markup::Error;
 use sheet::SheetView;
 use std::alloc::{AllocError, Global};
-
-// The longest sheet: 65,535 elements and 1,024 names of 32 bytes.
-const LONGEST_SHEET: usize = 1_093_648;
 
 // The lines of the elements that a view shows, and then `end`.
 fn view_lines(heap: Global, view: &SheetView<'_>) -> Result<Vec<u8>, AllocError>
     ensures { IfOk result (λ v. v.items ≡ tree_lines (tree_of view.now.bytes.now)) }
 {
     let mut lines = Vec::new(heap);
+    // By number: a view has no iterator of its elements.
     for k in 0..view.element_count() {
         let element = view.element(k).unwrap();
-        let name = view.name(element.name as u32).unwrap();
+        let name = view.name(u32::from(element.name)).unwrap();
         let line = line::element_line(heap, element, name)?;
         lines.extend_from_slice(line.as_slice())?;
     }
@@ -34,10 +33,8 @@ fn sheet_lines(heap: Global, bytes: &[u8]) -> Result<Vec<u8>, AllocError>
     ensures { IfOk result (λ v. v.items ≡ tree_lines (tree_of bytes.now)) }
 {
     let mut view = SheetView::new();
-    match view.open(bytes) {
-        Ok(()) => view_lines(heap, &view),
-        Err(_) => unreachable(),
-    }
+    view.open(bytes).unwrap();
+    view_lines(heap, &view)
 }
 
 // The line of a refusal; want of memory has none, and is passed on.
@@ -46,17 +43,18 @@ fn error_line(heap: Global, error: Error) -> Result<Vec<u8>, AllocError>
 {
     match error {
         Error::Refused(fault) => line::refusal_line(heap, fault),
+        // By hand: a conversion of `Error` for `?` would be these two arms, for this call alone.
         Error::Memory => Err(AllocError),
     }
 }
 
 // The outline of a book text, by way of its sheet, which is written to the buffer.
 fn outline_in(heap: Global, text: &[u8], buffer: &mut [u8]) -> Result<Vec<u8>, AllocError>
-    requires { 1093648 ≤ length buffer.old }
+    requires { LONGEST_SHEET ≤ length buffer.old }
     ensures { IfOk result (λ v. Outlined text.now v.items) }
 {
     match index::index(heap, text, buffer) {
-        Ok(len) => sheet_lines(heap, &buffer[0..len]),
+        Ok(len) => sheet_lines(heap, &buffer[..len]),
         Err(error) => error_line(heap, error),
     }
 }
