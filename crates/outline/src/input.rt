@@ -9,7 +9,7 @@ pub(crate) fn read_up_to(rt: &HostRuntime, most: usize) -> anyhow::Result<Vec<u8
 {
     let mut text = Vec::with_capacity(rt.alloc(), most)?;
     rt.stdin().take(most as u64).read_to_end(&mut text)?;
-    // Drops nothing: it says the limit, of which the contract of `read_to_end` says nothing.
+    // Cuts nothing off: it is for the proof, since the contract of `read_to_end` does not speak of the limit.
     text.truncate(most);
     Ok(text)
 }
