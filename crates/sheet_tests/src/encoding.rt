@@ -1,6 +1,6 @@
 // What encoding writes and answers.
 use crate::book::{ELEMENTS, NAMES, SHEET};
-use markup::{Fault, Refusal};
+use markup::Refusal;
 use sheet::encode;
 use tree::Element;
 
@@ -15,10 +15,7 @@ fn writes_the_book(rt: HostRuntime) {
 #[test]
 fn wants_all_bytes(rt: HostRuntime) {
     let mut out = [7; 134];
-    let short = Fault {
-        refusal: Refusal::SheetWontFit,
-        place: 135,
-    };
+    let short = Refusal::SheetWontFit.at(135);
     assert_eq!(rt; encode(&ELEMENTS, &NAMES, &mut out), Err(short));
     assert!(rt; out == [7; 134]);
 }
@@ -26,10 +23,7 @@ fn wants_all_bytes(rt: HostRuntime) {
 #[test]
 fn refuses_a_number_without_a_name(rt: HostRuntime) {
     let mut out = [7; 140];
-    let wrong = Fault {
-        refusal: Refusal::ElementRecord,
-        place: 64,
-    };
+    let wrong = Refusal::ElementRecord.at(64);
     assert_eq!(rt; encode(&ELEMENTS, &NAMES[0..2], &mut out), Err(wrong));
     assert!(rt; out == [7; 140]);
 }
@@ -38,10 +32,7 @@ fn refuses_a_number_without_a_name(rt: HostRuntime) {
 fn refuses_a_long_name(rt: HostRuntime) {
     let names: [&[u8]; 3] = [b"b", b"p", b"n23456789012345678901234567890123"];
     let mut out = [7; 200];
-    let wrong = Fault {
-        refusal: Refusal::NameRecord,
-        place: 120,
-    };
+    let wrong = Refusal::NameRecord.at(120);
     assert_eq!(rt; encode(&ELEMENTS, &names, &mut out), Err(wrong));
 }
 
@@ -50,10 +41,7 @@ fn refuses_too_many_names(rt: HostRuntime) {
     let name: &[u8] = b"a";
     let names = [name; 1025];
     let mut out = [7; 200];
-    let wrong = Fault {
-        refusal: Refusal::HeaderField,
-        place: 8,
-    };
+    let wrong = Refusal::HeaderField.at(8);
     assert_eq!(rt; encode(&ELEMENTS, &names, &mut out), Err(wrong));
 }
 
@@ -67,9 +55,6 @@ fn refuses_too_many_elements(rt: HostRuntime) {
     };
     let elements = [element; 65_536];
     let mut out = [7; 200];
-    let wrong = Fault {
-        refusal: Refusal::HeaderField,
-        place: 4,
-    };
+    let wrong = Refusal::HeaderField.at(4);
     assert_eq!(rt; encode(&elements, &NAMES, &mut out), Err(wrong));
 }

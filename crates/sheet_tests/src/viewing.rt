@@ -15,8 +15,8 @@ fn shows_the_book(rt: HostRuntime) {
     let mut view = SheetView::new();
     assert_eq!(rt; view.open(&SHEET), Ok(()));
     assert!(rt; view.element_count() == 4 && view.name_count() == 3);
-    for k in 0..4 {
-        assert_eq!(rt; view.element(k as u32), Some(ELEMENTS[k]));
+    for (k, element) in ELEMENTS.iter().enumerate() {
+        assert_eq!(rt; view.element(k as u32), Some(*element));
     }
     assert_eq!(rt; view.element(4), None);
     assert!(rt; view.next(0) == 4 && view.next(1) == 3 && view.next(2) == 4 && view.next(3) == 4);
