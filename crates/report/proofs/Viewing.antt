@@ -22,6 +22,6 @@ one_more bs k e text h is named =
     take_more (elements_of bs) k blank (omega (arith, length-elements_of bs)) ∙ ap (λ (x : Element). take k (elements_of bs) ++ x ∷ []) here in
     grind (arith, common_steps)
 
--- the last one
+-- all elements
 pub all_lines : (bs : List ℕ) → element_lines (names_of bs) (take (element_count bs) (elements_of bs)) ≡ element_lines (names_of bs) (elements_of bs)
 all_lines bs = ap (element_lines (names_of bs)) (take_all (element_count bs) (elements_of bs) (omega (arith, length-elements_of bs)))
