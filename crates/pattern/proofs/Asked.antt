@@ -1,33 +1,30 @@
--- The nodes of a twig's table, for the calls that ask about them.
-use Rattle.std.proofs.Common.{◌≡◌, ℕ, ◌<◌, ◌≤◌, length, get_or, sym, ap, ◌∙◌, arith}
+-- The nodes of a twig, for the calls that ask about them.
+use Rattle.std.proofs.Common.{◌≡◌, ℕ, zero, suc, ◌<◌, ◌≤◌, List, [], ◌∷◌, length, get_or, Some, None, is_some, Option, MatchOption, sym, ap, ◌∙◌, true≢false, arith}
+use Rattle.pattern.specs.declared.node.Hook.{Hook}
 use Rattle.pattern.specs.declared.node.Node.{Node}
-use Rattle.pattern.specs.declared.twig.Twig.{Twig}
-use Rattle.pattern.specs.Shape.{Vertex, root_a, node_at, IsChild}
-use Rattle.pattern.specs.Table.{vertex_of}
-use Rattle.pattern.specs.Twig.{shape_of}
+use Rattle.pattern.specs.Shape.{Vertex, root_a, IsChild}
+use Rattle.pattern.specs.Nodes.{Hung}
+use Rattle.pattern.specs.Twig.{NextChild}
+use Rattle.pattern.specs.Table.{parent_of, vertex_of, vertices}
 use Rattle.pattern.proofs.Tables.{length-vertices, get_or-vertices}
 
-module _ (w : Twig) where
-  pub count : length (shape_of w).nodes ≡ w.len
-  count = length-vertices w.nodes w.len (omega (arith, w.few, w.table))
+-- only the root hangs on nothing
+pub not_root : (ns : List Node) (i : ℕ) (n : Node) (h : Hook) → Hung ns → i < length ns → n ≡ get_or ns i n → n.hook ≡ Some h → 0 < i
+not_root [] i n h hung there e hook = absurd (omega (arith, there))
+not_root (m ∷ ms) zero n h hung there e hook = absurd (true≢false (sym (ap is_some hook) ∙ ap (λ (v : Node). is_some v.hook) e ∙ ap is_some hung.0))
+not_root (m ∷ ms) (suc i) n h hung there e hook = omega arith
 
-  -- node i, as it is read from the table
-  module _ (i : ℕ) (d : Node) (h : i < w.len) where
-    pub there : i < length (shape_of w).nodes
-    there = omega (arith, count, h)
+-- a node hangs on its hook's parent
+pub child : (ns : List Node) (i : ℕ) (n : Node) (h : Hook) → Hung ns → i < length ns → n ≡ get_or ns i n → n.hook ≡ Some h → IsChild (vertices ns) h.parent i
+child ns i n h hung there e hook = record {
+  other = not_root ns i n h hung there e hook;
+  there = omega (arith, length-vertices ns, there);
+  hangs = ap (λ (v : Vertex). v.parent) (get_or-vertices ns i n root_a there ∙ sym (ap vertex_of e)) ∙ ap parent_of hook;
+}
 
-    pub at_table : node_at (shape_of w).nodes i ≡ vertex_of (get_or w.nodes i d)
-    at_table = get_or-vertices w.nodes w.len i d root_a h (omega (arith, w.few, w.table))
-
-    on_table : (node_at (shape_of w).nodes i).parent ≡ (get_or w.nodes i d).parent
-    on_table = ap (λ (v : Vertex). v.parent) at_table
-
-    pub child : (p : ℕ) → 0 < i → (get_or w.nodes i d).parent ≡ p → IsChild (shape_of w).nodes p i
-    child p some e = record { other = some; there = there; hangs = on_table ∙ e }
-
-    pub not_child : (p : ℕ) → ((get_or w.nodes i d).parent ≡ p → ⊥) → IsChild (shape_of w).nodes p i → ⊥
-    not_child p ne h = ne (sym on_table ∙ h.hangs)
-
-  -- past the last node
-  pub past : (i : ℕ) → w.len ≤ i → length (shape_of w).nodes ≤ i
-  past i h = omega (arith, count, h)
+-- what a search over all numbers finds
+pub first_child : (ns : List Vertex) (p after n : ℕ) (r : Option ℕ) → n ≡ length ns
+    → MatchOption r ((k : ℕ) → 0 ≤ k → k < n → after < k → IsChild ns p k → ⊥) (λ i. (0 ≤ i) × (i < n) × ((after < i) × IsChild ns p i) × ((k : ℕ) → 0 ≤ k → k < i → after < k → IsChild ns p k → ⊥))
+    → NextChild ns p after r
+first_child ns p after n (Some c) e h = (h.2.1, h.2.0, λ b l u. h.3 b (omega arith) u l)
+first_child ns p after n None e h = λ c l k. h c (omega arith) (omega (arith, e, k.there)) l k

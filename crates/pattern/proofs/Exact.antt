@@ -13,7 +13,7 @@ use Rattle.std.specs.List.{AllByRecursion as Every}
 use Rattle.markup.specs.Name.{name_first, name_byte, NameWithin}
 use Rattle.markup.proofs.Names.{first_is_byte}
 use Rattle.pattern.specs.Shape.{Vertex, Shape, node}
-use Rattle.pattern.specs.Reading.{State, Phase, nothing, lead, edge, slash, bracket, dot, dot_slash, inside, step, Move, granted, Limits, limits, next_in, beyond_in, begin_in, close, finish, feed, run_in, start, reads, read_pattern}
+use Rattle.pattern.specs.Reading.{State, Phase, nothing, lead, edge, slash, bracket, dot, dot_slash, inside, step, Move, granted, Limits, limits, next_in, beyond_in, begin_in, close, finish, feed, run_in, start, read_pattern}
 use Rattle.pattern.specs.Spelling.{lead_text, open_text}
 use Rattle.pattern.proofs.Tails.{Tail, end, onward, branch, text_of, nodes_of_tail, size, Within, DerivesTail}
 use Rattle.pattern.proofs.Sound.{at, shape, deeper}
@@ -251,16 +251,11 @@ long_or : (b : Bool) (o : Result Shape Fault) (f : Fault) (m : Mark) (vs : List 
 long_or true o f m vs x = (refl, x)
 long_or false o f m vs x = no_grant x
 
-pub exact_reads : (t : List ℕ) (m : Mark) (vs : List Vertex) → reads t start 0 ≡ granted m vs → DerivesTail limits t m vs
-unfolding reads
-exact_reads t m vs x = exact_in limits (omega arith) t m vs x
-
 pub exact : (t : List ℕ) (m : Mark) (vs : List Vertex) → read_pattern t ≡ granted m vs → (length t ≤ 1024) × DerivesTail limits t m vs
 exact t m vs x =
     let l = long_or (leb (length t) 1024) (run_in limits start 0 t) (fault PatternTooLong 1024) m vs x in
     (leb-true _ 1024 l.0, exact_in limits (omega arith) t m vs l.1)
 
 -- a text that is not too long
-pub reading_short : (t : List ℕ) → length t ≤ 1024 → read_pattern t ≡ reads t start 0
-unfolding reads
+pub reading_short : (t : List ℕ) → length t ≤ 1024 → read_pattern t ≡ run_in limits start 0 t
 reading_short t h = cond-true _ _ _ (le-leb _ 1024 h)

@@ -2,13 +2,13 @@ pub mod Steps
 pub mod Tables
 pub mod Progress
 pub mod Preorder
-pub mod Spell
 pub mod Tails
 pub mod Syntax
 pub mod Sound
 pub mod Exact
 pub mod Standard
 pub mod Trees
-pub mod Props
 pub mod Asked
+pub mod Spell
+pub mod Props
 pub mod Refused

@@ -1,110 +1,126 @@
 -- How the reader goes on: from one call of its functions to the next, what the text is read as stays the same.
-use Rattle.std.proofs.Common.{◌≡◌, ℕ, ◌+◌, ◌<◌, ◌≤◌, Bool, true, false, cond, List, [], ◌∷◌, ◌++◌, length, set, Ok, Err, sym, refl, ap, ◌∙◌, ⊎_elim, arith}
-use Rattle.std.proofs.lemmas.Bool.{cases_lt, ne_eqb, cond-true, cond-false, le-leb, lt-leb}
+use Rattle.std.proofs.Common.{◌≡◌, ℕ, ◌+◌, Bool, true, false, cond, eqb, leb, List, [], ◌∷◌, ◌++◌, length, Ok, Err, Option, sym, refl, ap, ◌∙◌, subst, arith}
+use Rattle.std.proofs.lemmas.List.{map_push, length-map}
+use Rattle.std.proofs.lemmas.Bool.{ne_eqb, cond-true, cond-false, le-leb, lt-leb}
+use Rattle.arrayvec.specs.ArrayString.{ArrayString}
 use Rattle.markup.specs.declared.fault.Fault.{Fault}
-use Rattle.markup.specs.declared.fault.Refusal.TheVariants.{Misfit, TooManySteps}
-use Rattle.markup.specs.Faults.{fault}
+use Rattle.markup.specs.declared.fault.Refusal.TheVariants.{Misfit}
 use Rattle.pattern.specs.declared.node.Edge.{Edge}
 use Rattle.pattern.specs.declared.node.Edge.TheVariants.{Child}
+use Rattle.pattern.specs.declared.node.Hook.{Hook}
 use Rattle.pattern.specs.declared.node.Mark.{Mark}
-use Rattle.pattern.specs.declared.node.Mark.TheVariants.{Top, Any}
-use Rattle.pattern.specs.declared.node.Name.{Name}
 use Rattle.pattern.specs.declared.node.Node.{Node}
 use Rattle.pattern.specs.declared.reader.Reader.{Reader}
-use Rattle.pattern.specs.Table.{vertex_of, vertices}
-use Rattle.pattern.specs.Reading.{State, Phase, edge, bracket, step, lead, stop, granted, refused, to, feed, start, reads}
-use Rattle.pattern.specs.Moves.{Next, outcome, Kept, Pushed, Named, Led, reads_on}
-use Rattle.pattern.proofs.Steps.{Sees, by, over, seen, stray, other}
-use Rattle.pattern.proofs.Tables.{length-vertices, vertices_more}
+use Rattle.pattern.specs.Shape.{Vertex}
+use Rattle.pattern.specs.Spot.{Spot}
+use Rattle.pattern.specs.Nodes.{NodeList}
+use Rattle.pattern.specs.Table.{parent_of, edge_of, vertex_of, vertices}
+use Rattle.pattern.specs.Reading.{State, Phase, edge, slash, bracket, step, stop, refused, granted, close, to, start, limits, feed, run_in}
+use Rattle.pattern.specs.Moves.{Next, reads_on, outcome, Accepted, Passed, Opened, Led, Edged, Named, Ended}
+use Rattle.pattern.proofs.Steps.{taken}
 
 -- the state of a reader
 abbrev pub state : Reader → Mark → ℕ → List ℕ → Phase → State
-state x m k hs p = record { mark = m; nodes = vertices x.nodes x.len; holder = k; brackets = hs; phase = p }
+state x m k hs p = record { mark = m; nodes = vertices x.nodes.items; holder = k; brackets = hs; phase = p }
 
--- from one step's end to another's, under as many brackets
-pub record Along (x y : Reader) (depth k k' : ℕ) : Type 0 where
-  pub same : (m : Mark) (hs : List ℕ) → length hs ≡ depth → outcome x m k hs step ≡ outcome y m k' hs step
+-- from the start to the first step
+pub from_start : (t : List ℕ) (x : Reader) (y : Spot) (m : Mark) → x.cursor.rest ≡ t → x.cursor.place ≡ 0 → x.nodes.items ≡ [] → Led x.cursor y (Ok m)
+    → run_in limits start 0 t ≡ outcome (record { cursor = y; nodes = x.nodes }) m 0 [] (edge Child)
+from_start t x y m text place none led =
+    (λ i. run_in limits start (sym place i) (sym text i))
+    ∙ led
+    ∙ (λ i. reads_on y (record { mark = m; nodes = vertices (sym none i); holder = 0; brackets = []; phase = edge Child }))
 
--- from place i of the text of x, with its nodes, to the reader y
-module _ (x y : Reader) (kept : Kept x y) (i : ℕ) (m : Mark) (k : ℕ) (hs : List ℕ) where
-  pub passed : (p : Phase) → y.at ≡ i → reads x.text.now (state x m k hs p) i ≡ outcome y m k hs p
-  passed p e = λ z. reads (sym kept.0 z).now (record { mark = m; nodes = vertices (sym kept.1 z) (sym kept.2 z); holder = k; brackets = hs; phase = p }) (sym e z)
-
-  pub edged : (p : Phase) (e : Edge) → ((s : State) → reads x.text.now (to s p) i ≡ reads_on y (to s (edge e))) → reads x.text.now (state x m k hs p) i ≡ outcome y m k hs (edge e)
-  edged p e told =
-      told (state x m k hs p)
-      ∙ (λ z. reads_on y (record { mark = m; nodes = vertices (sym kept.1 z) (sym kept.2 z); holder = k; brackets = hs; phase = edge e }))
+pub from_start_not : (t : List ℕ) (x : Spot) (y : Spot) (f : Fault) → x.rest ≡ t → x.place ≡ 0 → Led x y (Err f) → run_in limits start 0 t ≡ Err f
+from_start_not t x y f text place led = (λ i. run_in limits start (sym place i) (sym text i)) ∙ led
 
 -- a name and its node
-pub begun : (x y z : Reader) (a : Name) (p : ℕ) (e : Edge) (number : ℕ) → Kept x y → Named x y (Ok a) → Pushed (record { name = a; parent = p; edge = e }) y z → number ≡ y.len
-    → (m : Mark) (hs : List ℕ) → outcome x m p hs (edge e) ≡ outcome z m number hs step
-begun x y z a p e number kept named pushed is m hs =
-    let n : Node = record { name = a; parent = p; edge = e } in
-    let size : length (vertices x.nodes x.len) ≡ x.len = length-vertices _ _ (omega (arith, named.1, x.table)) in
-    let vs : vertices x.nodes x.len ++ vertex_of n ∷ [] ≡ vertices z.nodes z.len =
-    vertices_more x.nodes x.len n (omega (arith, named.1, x.table))
-    ∙ (λ i. vertices (set (sym kept.1 i) (sym kept.2 i) n) (sym kept.2 i + 1))
-    ∙ (λ i. vertices (sym pushed.3 i) (sym pushed.2 i)) in
-    named.2 (state x m p hs (edge e)) e size
-    ∙ (λ i. reads (sym pushed.0 i).now (record { mark = m; nodes = vs i; holder = (size ∙ sym kept.2 ∙ sym is) i; brackets = hs; phase = step }) (sym pushed.1 i))
+pub begun : (x : Reader) (y : Spot) (nodes : NodeList) (a : ArrayString) (h : Option Hook) (full : Bool) (number : ℕ)
+    → full ≡ leb 16 (length x.nodes.items) → Named full x.cursor y (Ok a) → nodes.items ≡ x.nodes.items ++ record { name = a; hook = h } ∷ [] → number ≡ length x.nodes.items
+    → (m : Mark) (hs : List ℕ) → outcome x m (parent_of h) hs (edge (edge_of h)) ≡ outcome (record { cursor = y; nodes = nodes }) m number hs step
+begun x y nodes a h full number room named pushed is m hs =
+    let n : Node = record { name = a; hook = h } in
+    let size : length (vertices x.nodes.items) ≡ length x.nodes.items = length-map x.nodes.items vertex_of in
+    let vs : vertices x.nodes.items ++ vertex_of n ∷ [] ≡ vertices nodes.items = sym (map_push vertex_of x.nodes.items n) ∙ sym (ap vertices pushed) in
+    named.2 (state x m (parent_of h) hs (edge (edge_of h))) (edge_of h) (ap (leb 16) size ∙ sym room)
+    ∙ (λ i. reads_on y (record { mark = m; nodes = vs i; holder = (size ∙ sym is) i; brackets = hs; phase = step }))
 
-module _ (x : Reader) (m : Mark) (k : ℕ) (hs : List ℕ) where
-  -- `[`
-  pub opens : Next x 91 → length hs < 8 → outcome x m k hs step ≡ reads x.text.now (state x m k (k ∷ hs) bracket) (x.at + 1)
-  opens h few = seen _ _ x.at 91 h ∙ ap (λ v. feed x.at v (λ u. reads x.text.now u (x.at + 1))) (cond-false _ _ _ (lt-leb 8 _ few))
+pub begun_not : (x : Reader) (y : Spot) (h : Option Hook) (full : Bool) (f : Fault) → full ≡ leb 16 (length x.nodes.items) → Named full x.cursor y (Err f)
+    → (m : Mark) (hs : List ℕ) → outcome x m (parent_of h) hs (edge (edge_of h)) ≡ Err f
+begun_not x y h full f room named m hs =
+    named (state x m (parent_of h) hs (edge (edge_of h))) (edge_of h) (ap (leb 16) (length-map x.nodes.items vertex_of) ∙ sym room)
 
-  pub opens_not : Next x 91 → 8 ≤ length hs → outcome x m k hs step ≡ refused TooManySteps x.at
-  opens_not h many = seen _ _ x.at 91 h ∙ ap (λ v. feed x.at v (λ u. reads x.text.now u (x.at + 1))) (cond-true _ _ _ (le-leb 8 _ many))
+-- an edge after a step
+pub onward : (x y z : Spot) (e : Edge) → Accepted 47 x y true → Edged slash y z (Ok e) → (s : State) → reads_on x (to s step) ≡ reads_on z (to s (edge e))
+onward x y z e a b s = taken x y 47 a (to s step) ∙ b.1 s
 
-  -- `]`
-  pub closes : (h : ℕ) → Next x 93 → outcome x m k (h ∷ hs) step ≡ reads x.text.now (state x m h hs step) (x.at + 1)
-  closes h sees = seen _ _ x.at 93 sees
+-- what `open` answers, where the answer is known
+pub opened : (depth : ℕ) (x y : Spot) (b c : Bool) → b ≡ c → Opened depth x y (Ok b) → Opened depth x y (Ok c)
+opened depth x y b c e o = subst (λ v. Opened depth x y (Ok v)) e o
 
-  pub closes_not : (h : ℕ) → (Next x 47 → ⊥) → (Next x 91 → ⊥) → (Next x 93 → ⊥) → outcome x m k (h ∷ hs) step ≡ refused Misfit x.at
-  closes_not h n47 n91 n93 =
-      ⊎_elim
-      (λ i. by _ _ x.at i (cond-false _ _ _ (ne_eqb _ 47 (λ e. n47 (i, e))) ∙ cond-false _ _ _ (ne_eqb _ 91 (λ e. n91 (i, e))) ∙ cond-false _ _ _ (ne_eqb _ 93 (λ e. n93 (i, e)))))
-      (λ i. over _ _ x.at i)
-      (cases_lt x.at (length x.text.now))
+module _ (x : Reader) (depth : ℕ) (m : Mark) (k : ℕ) (hs : List ℕ) (d : length hs ≡ depth) (y : Spot) where
+  -- a `[` too many
+  pub opens_not : (f : Fault) → Opened depth x.cursor y (Err f) → outcome x m k hs step ≡ Err f
+  opens_not f a =
+      let z : Spot = record { place = x.cursor.place + 1; rest = a.0.0 } in
+      taken x.cursor z 91 (a.0.1, refl) (state x m k hs step)
+      ∙ ap (λ v. feed x.cursor.place v (reads_on z)) (cond-true _ _ _ (le-leb 8 (length hs) (omega (arith, d, a.1))))
+      ∙ ap Err (sym a.2)
+
+  module _ (o : Opened depth x.cursor y (Ok true)) where
+    opens : outcome x m k hs step ≡ reads_on y (state x m k (k ∷ hs) bracket)
+    opens =
+        taken x.cursor y 91 o.0 (state x m k hs step)
+        ∙ ap (λ v. feed x.cursor.place v (reads_on y)) (cond-false _ _ _ (lt-leb 8 (length hs) (omega (arith, d, o.1 refl))))
+
+    -- `[` and the edge of its branch
+    pub enters : (z : Spot) (e : Edge) → Edged bracket y z (Ok e) → outcome x m k hs step ≡ reads_on z (state x m k (k ∷ hs) (edge e))
+    enters z e b = opens ∙ b.1 (state x m k (k ∷ hs) bracket)
+
+    pub enters_not : (z : Spot) (f : Fault) → Edged bracket y z (Err f) → outcome x m k hs step ≡ Err f
+    enters_not z f b = opens ∙ b (state x m k (k ∷ hs) bracket)
 
 pub deeper : (k : ℕ) (hs : List ℕ) (depth : ℕ) → length hs ≡ depth → length (k ∷ hs) ≡ depth + 1
 deeper k hs depth d = omega arith
 
--- the state after a lead
-abbrev after_lead : Mark → State
-after_lead m = record { mark = m; nodes = []; holder = 0; brackets = []; phase = edge Child }
+-- a byte after a step that is neither `/` nor `[`
+beyond : (s : State) (k b : ℕ) (bs : List ℕ) → (Next (record { place = k; rest = b ∷ bs }) 47 → ⊥) → (Next (record { place = k; rest = b ∷ bs }) 91 → ⊥)
+    → run_in limits (to s step) k (b ∷ bs) ≡ feed k (cond (eqb b 93) (close (to s step) s.brackets) (stop Misfit)) (λ t. run_in limits t (k + 1) bs)
+unfolding run_in
+beyond s k b bs n47 n91 =
+    ap (λ v. feed k v (λ t. run_in limits t (k + 1) bs))
+    (cond-false _ _ _ (ne_eqb b 47 (λ e. n47 (bs, ap (λ v. v ∷ bs) e))) ∙ cond-false _ _ _ (ne_eqb b 91 (λ e. n91 (bs, ap (λ v. v ∷ bs) e))))
 
-module _ (t : List ℕ) (i : ℕ) where
-  pub lead_not : (f : Fault) → (Sees t i 47 → ⊥) × (f ≡ fault Misfit i) → reads t start i ≡ Err f
-  lead_not f a = stray t start i 47 _ a.0 (λ b. refl) refl ∙ ap Err (sym a.1)
+-- where a bracket is open and none closes
+unclosed : (m : Mark) (vs : List Vertex) (h g : ℕ) (gs : List ℕ) (k : ℕ) (bs : List ℕ)
+    → (Next (record { place = k; rest = bs }) 47 → ⊥) → (Next (record { place = k; rest = bs }) 91 → ⊥) → (Next (record { place = k; rest = bs }) 93 → ⊥)
+    → run_in limits (record { mark = m; nodes = vs; holder = h; brackets = g ∷ gs; phase = step }) k bs ≡ refused Misfit k
+unfolding run_in
+unclosed m vs h g gs k [] n47 n91 n93 = refl
+unclosed m vs h g gs k (b ∷ bs) n47 n91 n93 =
+    beyond (record { mark = m; nodes = vs; holder = h; brackets = g ∷ gs; phase = step }) k b bs n47 n91
+    ∙ ap (λ v. feed k v (λ t. run_in limits t (k + 1) bs)) (cond-false _ _ _ (ne_eqb b 93 (λ e. n93 (bs, ap (λ v. v ∷ bs) e))))
 
-  -- with the text t' after the first `/`
-  module _ (t' : List ℕ) (j : ℕ) (a : Sees t i 47 × (j ≡ i + 1)) (text : t' ≡ t) where
-    first : reads t start i ≡ reads t' (to start lead) j
-    first = seen t start i 47 a.0 ∙ (λ z. reads (sym text z) (to start lead) (sym a.1 z))
-
-    pub lead_any : Sees t' j 47 → reads t start i ≡ reads t' (after_lead Any) (j + 1)
-    lead_any h = first ∙ seen t' (to start lead) j 47 h
-
-    pub lead_top : (Sees t' j 47 → ⊥) → reads t start i ≡ reads t' (after_lead Top) j
-    lead_top n = first ∙ other t' (to start lead) (after_lead Top) j 47 _ n (λ b. refl) refl
-
--- from the start to the first step
-pub from_start : (t : List ℕ) (x y : Reader) (m : Mark) → x.text.now ≡ t → x.at ≡ 0 → x.len ≡ 0 → Kept x y → Led x y (Ok m) → reads t start 0 ≡ outcome y m 0 [] (edge Child)
-from_start t x y m text place len kept told =
-    (λ z. reads (sym text z) start (sym place z))
-    ∙ told
-    ∙ (λ z. reads_on y (record { mark = m; nodes = vertices y.nodes (sym (kept.2 ∙ len) z); holder = 0; brackets = []; phase = edge Child }))
+pub closes_not : (x : Reader) (y : Spot) (f : Fault) → (Next x.cursor 91 → ⊥) × (Next x.cursor 47 → ⊥) → Passed {A = Unit {0}} 93 x.cursor y (Err f)
+    → (m : Mark) (k g : ℕ) (gs : List ℕ) → outcome x m k (g ∷ gs) step ≡ Err f
+closes_not x y f n a m k g gs = unclosed m _ k g gs x.cursor.place x.cursor.rest n.1 n.0 a.0 ∙ ap Err (sym a.1)
 
 -- at the end of the last step
 same_cond : {A : Type 0} (b : Bool) (x : A) → cond b x x ≡ x
 same_cond true x = refl
 same_cond false x = refl
 
-pub ended : (x : Reader) (m : Mark) (k : ℕ) → length x.text.now ≤ x.at → outcome x m k [] step ≡ granted m (vertices x.nodes x.len)
-ended x m k h = over _ _ x.at h
+unended : (m : Mark) (vs : List Vertex) (h k : ℕ) (bs : List ℕ)
+    → (Next (record { place = k; rest = bs }) 47 → ⊥) → (Next (record { place = k; rest = bs }) 91 → ⊥) → (bs ≡ [] → ⊥)
+    → run_in limits (record { mark = m; nodes = vs; holder = h; brackets = []; phase = step }) k bs ≡ refused Misfit k
+unended m vs h k [] n47 n91 n = absurd (n refl)
+unended m vs h k (b ∷ bs) n47 n91 n =
+    beyond (record { mark = m; nodes = vs; holder = h; brackets = []; phase = step }) k b bs n47 n91
+    ∙ ap (λ v. feed k v (λ t. run_in limits t (k + 1) bs)) (same_cond (eqb b 93) (stop Misfit))
 
-pub ended_not : (x : Reader) (m : Mark) (k : ℕ) (f : Fault) → (Next x 91 → ⊥) × (Next x 47 → ⊥) → (x.at < length x.text.now) × (f ≡ fault Misfit x.at) → outcome x m k [] step ≡ Err f
-ended_not x m k f n a =
-    by _ _ x.at a.0 (cond-false _ _ _ (ne_eqb _ 47 (λ e. n.1 (a.0, e))) ∙ cond-false _ _ _ (ne_eqb _ 91 (λ e. n.0 (a.0, e))) ∙ same_cond _ (stop Misfit))
-    ∙ ap Err (sym a.1)
+pub ended : (x : Reader) (m : Mark) (k : ℕ) → x.cursor.rest ≡ [] → outcome x m k [] step ≡ granted m (vertices x.nodes.items)
+unfolding run_in
+ended x m k e = ap (run_in limits (state x m k [] step) x.cursor.place) e
+
+pub ended_not : (x : Reader) (m : Mark) (k : ℕ) (f : Fault) → (Next x.cursor 91 → ⊥) × (Next x.cursor 47 → ⊥) → Ended {A = Unit {0}} x.cursor (Err f) → outcome x m k [] step ≡ Err f
+ended_not x m k f n a = unended m _ k x.cursor.place x.cursor.rest n.1 n.0 a.0 ∙ ap Err (sym a.1)

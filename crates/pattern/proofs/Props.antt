@@ -1,5 +1,5 @@
 -- A twig's lawfulness is a proposition, so that it can be taken out of the type.
-use Rattle.std.proofs.Common.{◌≡◌, ℕ, List, [], ◌∷◌, sym, refl, subst}
+use Rattle.std.proofs.Common.{◌≡◌, ℕ, Ok, List, [], ◌∷◌, sym, refl, subst}
 use mathlib.Core.HLevel.{hedberg, Unit-prop, ×_prop}
 use Rattle.std.proofs.Math.Logic.{∥∥₁_elim}
 use Rattle.std.proofs.Math.Bool.{Bool-set}
@@ -10,7 +10,12 @@ use Rattle.markup.specs.Name.{LawfulName}
 use Rattle.pattern.specs.declared.node.Edge.{Edge}
 use Rattle.pattern.specs.declared.node.Edge.TheVariants.{Child, Descendant}
 use Rattle.pattern.specs.Shape.{Vertex, LawfulTwig}
+use Rattle.pattern.specs.declared.twig.Twig.{Twig}
 use Rattle.pattern.specs.Twig.{shape_of}
+use Rattle.pattern.specs.Reading.{up_to, read_pattern}
+use Rattle.pattern.specs.Spelling.{spelling}
+use Rattle.pattern.specs.Grammar.{Spells}
+use Rattle.pattern.proofs.Trees.{back, one_spelling}
 use Rattle.pattern.specs.Promises.{EveryTwigIsLawful}
 
 abbrev ByChild : Edge → Type 0
@@ -49,3 +54,9 @@ lawful_prop nodes x y i = record {
 -- every twig is lawful
 pub every : EveryTwigIsLawful
 every w = ∥∥₁_elim w.lawful (lawful_prop (shape_of w).nodes) (λ x. x)
+
+pub standard : (w : Twig) → Spells (up_to 7) (spelling (shape_of w)) (shape_of w)
+standard w = (one_spelling (shape_of w) (every w)).0
+
+pub reads_back : (w : Twig) → read_pattern (spelling (shape_of w)) ≡ Ok (shape_of w)
+reads_back w = back (shape_of w) (every w)

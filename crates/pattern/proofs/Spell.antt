@@ -1,24 +1,28 @@
 -- What the writer of the spelling leans on.
-use Rattle.std.proofs.Common.{◌≡◌, ℕ, zero, suc, ◌+◌, ◌-◌, ◌<◌, ◌≤◌, Bool, true, false, eqb, List, [], ◌∷◌, ◌++◌, length, get_or, take, drop, is_some, Some, None, Option, sym, refl, ap, ◌∙◌, arith}
-use Rattle.std.proofs.lemmas.List.{at_drop_more, at_drop_all, length-take, length-take-le, append_assoc, append-nil}
+use Rattle.std.proofs.Common.{◌≡◌, ℕ, zero, suc, ◌+◌, ◌-◌, ◌<◌, ◌≤◌, Bool, true, false, eqb, List, [], ◌∷◌, ◌++◌, length, get_or, drop, is_some, Some, None, Option, sym, refl, ap, ◌∙◌, true≢false, arith}
+use Rattle.std.proofs.lemmas.List.{drop_more, drop_all, append_assoc, append-nil}
 use Rattle.std.proofs.lemmas.Bool.{eq-eqb, ne_eqb, or_left, or_right, or_from}
+use Rattle.std.proofs.ByRecursion.{All-get_or}
+use Rattle.pattern.specs.declared.node.Hook.{Hook}
+use Rattle.pattern.specs.declared.node.Mark.{Mark}
 use Rattle.pattern.specs.declared.node.Node.{Node}
 use Rattle.pattern.specs.Shape.{Vertex, node_at, shape}
-use Rattle.pattern.specs.declared.node.Mark.{Mark}
-use Rattle.pattern.specs.Table.{vertices, name_of}
+use Rattle.pattern.specs.Nodes.{Hung}
+use Rattle.pattern.specs.Table.{parent_of, edge_of, vertex_of, vertices}
 use Rattle.pattern.specs.Twig.{NextChild}
 use Rattle.pattern.specs.Spelling.{later, piece, rest, spelling, close_text, open_text, lead_text}
-use Rattle.pattern.proofs.Tables.{get_or-vertices}
+use Rattle.pattern.proofs.Tables.{length-vertices, get_or-vertices}
+use Rattle.pattern.proofs.Asked.{not_root}
 
 -- a later child of p
-pub later_some : (p : ℕ) (vs : List Vertex) (k c : ℕ) → k ≤ c → c < length vs → (node_at vs c).parent ≡ p → later p (drop k vs) ≡ true
+later_some : (p : ℕ) (vs : List Vertex) (k c : ℕ) → k ≤ c → c < length vs → (node_at vs c).parent ≡ p → later p (drop k vs) ≡ true
 later_some p [] k c le l e = absurd (omega (arith, l))
 later_some p (v ∷ vs) zero zero le l e = or_left _ _ (eq-eqb _ p e)
 later_some p (v ∷ vs) zero (suc c) le l e = or_right (eqb v.parent p) _ (later_some p vs zero c (omega arith) (omega arith) e)
 later_some p (v ∷ vs) (suc k) zero le l e = absurd (omega (arith, le))
 later_some p (v ∷ vs) (suc k) (suc c) le l e = later_some p vs k c (omega arith) (omega arith) e
 
-pub later_none : (p : ℕ) (vs : List Vertex) (k : ℕ) → ((c : ℕ) → k ≤ c → c < length vs → (node_at vs c).parent ≡ p → ⊥) → later p (drop k vs) ≡ false
+later_none : (p : ℕ) (vs : List Vertex) (k : ℕ) → ((c : ℕ) → k ≤ c → c < length vs → (node_at vs c).parent ≡ p → ⊥) → later p (drop k vs) ≡ false
 later_none p [] zero h = refl
 later_none p [] (suc k) h = refl
 later_none p (v ∷ vs) zero h =
@@ -29,43 +33,64 @@ pub later_next : (p : ℕ) (vs : List Vertex) (k : ℕ) (o : Option ℕ) → Nex
 later_next p vs k (Some c) h = sym (later_some p vs (k + 1) c (omega (arith, h.1)) h.0.there h.0.hangs)
 later_next p vs k None h = sym (later_none p vs (k + 1) (λ c le l e. let x : k < c = omega arith in h c x (record { other = omega arith; there = l; hangs = e })))
 
--- three parts after one another
-pub three : (t t₁ t₂ t₃ a b n : List ℕ) → t₁ ≡ t ++ a → t₂ ≡ t₁ ++ b → t₃ ≡ t₂ ++ n → t₃ ≡ t ++ (a ++ b ++ n)
-three t t₁ t₂ t₃ a b n e₁ e₂ e₃ =
-    e₃ ∙ ap (λ x. x ++ n) (e₂ ∙ ap (λ x. x ++ b) e₁ ∙ append_assoc t a b) ∙ append_assoc t (a ++ b) n
+-- what is left to write before node k, where vs are the nodes from k on
+abbrev pub to_write : Mark → ℕ → List Vertex → List ℕ
+to_write m zero vs = spelling (shape m vs)
+to_write m (suc k) vs = rest k vs
 
--- a name as a part of its bytes
-pub name_part : (a : Node) → take (a.name.len - 0) a.name.bytes ≡ name_of a.name
-name_part a = let e : a.name.len - 0 ≡ a.name.len = omega arith in ap (λ n. take n a.name.bytes) e
+-- one node of it
+own : Mark → ℕ → Vertex → List Vertex → List ℕ
+own m zero v vs = lead_text m ++ v.name
+own m (suc k) v vs = piece k v vs
 
-pub name_short : (a : Node) → length (take (a.name.len - 0) a.name.bytes) ≤ 32
-name_short a = omega (arith, length-take (a.name.len - 0) a.name.bytes, a.name.short)
+write_more : (m : Mark) (k : ℕ) (v : Vertex) (vs : List Vertex) → to_write m k (v ∷ vs) ≡ own m k v vs ++ to_write m (k + 1) vs
+unfolding own
+write_more m zero v vs = refl
+write_more m (suc k) v vs = let z : suc k + 1 ≡ suc (k + 1) = omega arith in ap (λ j. piece k v vs ++ to_write m j vs) (sym z)
 
--- a node's own piece, by the node that was read
-pub piece_at : (before : ℕ) (ns : List Node) (len : ℕ) (r : Node) (d : Vertex) (b : Bool) → before + 1 < len → len ≤ length ns
-    → b ≡ later (get_or ns (before + 1) r).parent (drop (before + 1 + 1) (vertices ns len))
-    → close_text (get_or ns (before + 1) r).parent before ++ open_text b (get_or ns (before + 1) r).edge ++ name_of (get_or ns (before + 1) r).name
-    ≡ piece before (get_or (vertices ns len) (before + 1) d) (drop (before + 1 + 1) (vertices ns len))
-piece_at before ns len r d b h k e =
-    ap (λ x. close_text (get_or ns (before + 1) r).parent before ++ open_text x (get_or ns (before + 1) r).edge ++ name_of (get_or ns (before + 1) r).name) e
-    ∙ sym (ap (λ (v : Vertex). piece before v (drop (before + 1 + 1) (vertices ns len))) (get_or-vertices ns len (before + 1) r d h k))
+pub written : (m : Mark) (k : ℕ) (vs : List Vertex) (t : List ℕ) → 0 < k → length vs ≤ k → t ++ to_write m k (drop k vs) ≡ spelling (shape m vs) → t ≡ spelling (shape m vs)
+written m zero vs t some all e = absurd (omega (arith, some))
+written m (suc k) vs t some all e = sym (append-nil t) ∙ ap (λ x. t ++ rest k x) (sym (drop_all (suc k) vs all)) ∙ e
 
--- the rest of a spelling, one node on and at the end
-pub rest_more : (t t' s : List ℕ) (i : ℕ) (vs : List Vertex) (d : Vertex) → i + 1 < length vs
-    → t ++ rest i (drop (i + 1) vs) ≡ s → t' ≡ t ++ piece i (get_or vs (i + 1) d) (drop (i + 1 + 1) vs) → t' ++ rest (i + 1) (drop (i + 1 + 1) vs) ≡ s
-rest_more t t' s i vs d h e e' =
-    ap (λ x. x ++ rest (i + 1) (drop (i + 1 + 1) vs)) e'
-    ∙ append_assoc t _ _
-    ∙ ap (λ x. t ++ x) (sym (at_drop_more (rest i) vs (i + 1) d h))
-    ∙ e
+-- a node that is not the root hangs on some node
+root_only : (ns : List Node) (k : ℕ) (n : Node) → Hung ns → k < length ns → n ≡ get_or ns k n → n.hook ≡ None → k ≡ 0
+root_only ns zero n hung there is none = refl
+root_only [] (suc k) n hung there is none = absurd (omega (arith, there))
+root_only (m ∷ ms) (suc k) n hung there is none =
+    absurd (true≢false (sym (All-get_or _ ms k n (omega (arith, there)) hung.1) ∙ ap (λ (v : Node). is_some v.hook) (sym is) ∙ ap is_some none))
 
-pub rest_end : (t s : List ℕ) (i : ℕ) (vs : List Vertex) → length vs ≤ i + 1 → t ++ rest i (drop (i + 1) vs) ≡ s → t ≡ s
-rest_end t s i vs h e = sym (append-nil t) ∙ ap (λ x. t ++ x) (sym (at_drop_all (rest i) vs (i + 1) h)) ∙ e
+-- node k is written after the text t
+module _ (m : Mark) (ns : List Node) (hung : Hung ns) (n : Node) (k : ℕ) (there : k < length ns) (is : n ≡ get_or ns k n) (t : List ℕ) (sofar : t ++ to_write m k (drop k (vertices ns)) ≡ spelling (shape m (vertices ns))) where
+  one_more : (o t' : List ℕ) → o ≡ own m k (vertex_of n) (drop (k + 1) (vertices ns)) → t' ≡ t ++ o → t' ++ to_write m (k + 1) (drop (k + 1) (vertices ns)) ≡ spelling (shape m (vertices ns))
+  one_more o t' e e' =
+      let v : get_or (vertices ns) k (vertex_of n) ≡ vertex_of n = get_or-vertices ns k n _ there ∙ sym (ap vertex_of is) in
+      let d : drop k (vertices ns) ≡ vertex_of n ∷ drop (k + 1) (vertices ns) = drop_more (vertices ns) k (vertex_of n) (omega (arith, there, length-vertices ns)) ∙ ap (λ x. x ∷ drop (k + 1) (vertices ns)) v in
+      ap (λ x. x ++ to_write m (k + 1) (drop (k + 1) (vertices ns))) (e' ∙ ap (λ x. t ++ x) e)
+      ∙ append_assoc t _ _
+      ∙ ap (λ x. t ++ x) (sym (write_more m k (vertex_of n) (drop (k + 1) (vertices ns))))
+      ∙ ap (λ x. t ++ to_write m k x) (sym d)
+      ∙ sofar
 
-pub rest_start : (m : Mark) (t t₁ t₂ n : List ℕ) (vs : List Vertex) (d : Vertex) → 0 < length vs → t ≡ [] → t₁ ≡ t ++ lead_text m → t₂ ≡ t₁ ++ n → n ≡ (get_or vs 0 d).name → t₂ ++ rest 0 (drop 1 vs) ≡ spelling (shape m vs)
-rest_start m t t₁ t₂ n [] d h e e₁ e₂ e₃ = absurd (omega arith)
-rest_start m t t₁ t₂ n (v ∷ vs) d h e e₁ e₂ e₃ = ap (λ x. x ++ rest 0 vs) (e₂ ∙ (λ z. (e₁ ∙ ap (λ x. x ++ lead_text m) e) z ++ e₃ z))
+  pub root_written : (t₁ t₂ : List ℕ) → n.hook ≡ None → t₁ ≡ t ++ lead_text m → t₂ ≡ t₁ ++ n.name.bytes → t₂ ++ to_write m (k + 1) (drop (k + 1) (vertices ns)) ≡ spelling (shape m (vertices ns))
+  unfolding own
+  root_written t₁ t₂ none e₁ e₂ =
+      let z : 0 ≡ k = sym (root_only ns k n hung there is none) in
+      one_more _ t₂ (ap (λ j. own m j (vertex_of n) (drop (k + 1) (vertices ns))) z) (e₂ ∙ ap (λ x. x ++ n.name.bytes) e₁ ∙ append_assoc t _ _)
 
--- the written text has the buffer's length
-pub written : (bytes t : List ℕ) (len : ℕ) → len ≤ length bytes → take len bytes ≡ t → length t ≡ len
-written bytes t len h e = sym (ap length e) ∙ length-take-le len bytes h
+  module _ (h : Hook) (some : n.hook ≡ Some h) where
+    pub after_root : 0 < k
+    after_root = not_root ns k n h hung there is some
+
+    pub node_written : (b : Bool) (t₁ t₂ t₃ : List ℕ) → b ≡ later h.parent (drop (k + 1) (vertices ns))
+        → t₁ ≡ t ++ close_text h.parent (k - 1) → t₂ ≡ t₁ ++ open_text b h.edge → t₃ ≡ t₂ ++ n.name.bytes
+        → t₃ ++ to_write m (k + 1) (drop (k + 1) (vertices ns)) ≡ spelling (shape m (vertices ns))
+    unfolding own
+    node_written b t₁ t₂ t₃ l e₁ e₂ e₃ =
+        let z : suc (k - 1) ≡ k = omega (arith, after_root) in
+        one_more (close_text h.parent (k - 1) ++ open_text b h.edge ++ n.name.bytes) t₃
+        ((λ i. close_text (parent_of (sym some i)) (k - 1) ++ open_text (at_later i) (edge_of (sym some i)) ++ n.name.bytes)
+        ∙ ap (λ j. own m j (vertex_of n) (drop (k + 1) (vertices ns))) z)
+        (e₃ ∙ ap (λ x. x ++ n.name.bytes) (e₂ ∙ ap (λ x. x ++ open_text b h.edge) e₁ ∙ append_assoc t _ _) ∙ append_assoc t _ _)
+      where
+        at_later : b ≡ later (parent_of n.hook) (drop (k + 1) (vertices ns))
+        at_later = l ∙ ap (λ o. later (parent_of o) (drop (k + 1) (vertices ns))) (sym some)

@@ -1,157 +1,221 @@
--- How the reading of a text goes on by one byte.
-use Rattle.std.proofs.Common.{◌≡◌, ℕ, ◌+◌, ◌<◌, ◌≤◌, true, false, cond, eqb, leb, List, [], ◌∷◌, ◌++◌, length, get_or, take, set, Err, sym, refl, ap, ◌∙◌, subst, ⊎_elim, arith}
-use Rattle.std.proofs.lemmas.List.{drop_more, drop_all, take_more_set, length-take-le}
-use Rattle.std.proofs.lemmas.Bool.{cases_lt, ne_eqb, cond-true, cond-false, le-leb, lt-leb}
-use Rattle.pattern.specs.declared.node.Edge.{Edge}
-use Rattle.pattern.specs.declared.node.Edge.TheVariants.{Child, Descendant}
+-- How the reading of a text goes on by one byte, and by a name.
+use Rattle.std.proofs.Common.{◌≡◌, ℕ, zero, suc, ◌+◌, ◌-◌, ◌<◌, ◌≤◌, Bool, true, false, cond, eqb, leb, List, [], ◌∷◌, ◌++◌, length, take, drop, Ok, Err, Result, IsOk, MatchResult, ◌&&◌, ◌||◌, sym, refl, ap, ◌∙◌, subst, ⊎_elim, true≢false, arith}
+use Rattle.std.specs.List.{prefix_len, AllByRecursion as Every}
+use Rattle.std.specs.Str.{IsUtf8, IsAscii}
+use Rattle.std.proofs.lemmas.Str.{IsUtf8-from_ascii}
+use Rattle.std.proofs.lemmas.List.{append_assoc, append-nil, length_push}
+use Rattle.std.proofs.lemmas.Bool.{cases_lt, ne_eqb, leb-true, eqb-true, or_cases, and_parts, cond-true, cond-false, le-leb, lt-leb}
 use Rattle.markup.specs.declared.fault.Fault.{Fault}
 use Rattle.markup.specs.declared.fault.Refusal.TheVariants.{Misfit, TooManySteps, PatternNameTooLong}
-use Rattle.markup.specs.Faults.{fault}
 use Rattle.markup.specs.Name.{name_first, name_byte}
-use Rattle.pattern.specs.Reading.{State, edge, bracket, step, inside, slash, dot, dot_slash, Move, go, stop, refused, limits, to, settle, next_in, beyond_in, finish, feed, run_in, reads}
+use Rattle.markup.proofs.Names.{first_is_byte}
+use Rattle.markup.proofs.Leading.{all_leading}
+use Rattle.pattern.specs.declared.node.Edge.{Edge}
+use Rattle.pattern.specs.declared.node.Edge.TheVariants.{Child, Descendant}
+use Rattle.pattern.specs.declared.node.Mark.TheVariants.{Top, Any}
+use Rattle.pattern.specs.Spot.{Spot}
+use Rattle.pattern.specs.Reading.{State, edge, bracket, lead, inside, slash, dot, dot_slash, Move, stop, refused, limits, to, settle, start, next_in, finish, feed, run_in}
+use Rattle.pattern.specs.Moves.{begins_name, reads_on, Accepted, Passed, Led, Edged}
 
--- the byte b stands at place i
-abbrev pub Sees : List ℕ → ℕ → ℕ → Type 0
-Sees t i b = (i < length t) × (get_or t i 0 ≡ b)
+-- the byte b is passed over
+pub taken : (x y : Spot) (b : ℕ) → Accepted b x y true → (s : State) → reads_on x s ≡ feed x.place (next_in limits s s.phase b) (reads_on y)
+unfolding run_in
+taken x y b a s =
+    ap (run_in limits s x.place) a.0
+    ∙ ap (λ k. feed x.place (next_in limits s s.phase b) (λ t. run_in limits t k y.rest)) (sym a.1)
 
--- one byte on
-pub one : (t : List ℕ) (s : State) (i : ℕ) → i < length t → reads t s i ≡ feed i (next_in limits s s.phase (get_or t i 0)) (λ u. reads t u (i + 1))
-unfolding reads run_in
-one t s i h = ap (run_in limits s i) (drop_more t i 0 h)
+pub shorter : (x y : Spot) (b : ℕ) → Accepted b x y true → length y.rest < length x.rest
+shorter x y b a = omega (arith, ap length a.0)
 
--- the end
-pub over : (t : List ℕ) (s : State) (i : ℕ) → length t ≤ i → reads t s i ≡ finish s s.phase i
-unfolding reads run_in
-over t s i h = ap (run_in limits s i) (drop_all i t h)
-
--- one byte on, where the byte is known
-pub seen : (t : List ℕ) (s : State) (i b : ℕ) → Sees t i b → reads t s i ≡ feed i (next_in limits s s.phase b) (λ u. reads t u (i + 1))
-seen t s i b h = one t s i h.0 ∙ ap (λ x. feed i (next_in limits s s.phase x) (λ u. reads t u (i + 1))) h.1
-
--- where the next byte is not c, a phase that asks only about c goes on as another does
-pub other : (t : List ℕ) (s u : State) (i c : ℕ) (m : Move)
-    → (Sees t i c → ⊥)
+-- where the byte c does not come next, a phase that asks only about c goes on as another does
+other : (s u : State) (c : ℕ) (m : Move) (k : ℕ) (bs : List ℕ)
+    → ((more : List ℕ) × (bs ≡ c ∷ more) → ⊥)
     → ((b : ℕ) → next_in limits s s.phase b ≡ cond (eqb b c) m (next_in limits u u.phase b))
-    → finish s s.phase i ≡ finish u u.phase i
-    → reads t s i ≡ reads t u i
-other t s u i c m not-here by end =
-    ⊎_elim
-    (λ h. one t s i h
-    ∙ ap (λ x. feed i x (λ v. reads t v (i + 1))) (by (get_or t i 0) ∙ ap (λ x. cond x m (next_in limits u u.phase (get_or t i 0))) (ne_eqb _ c (λ e. not-here (h, e))))
-    ∙ sym (one t u i h))
-    (λ h. over t s i h ∙ end ∙ sym (over t u i h))
-    (cases_lt i (length t))
+    → finish s s.phase k ≡ finish u u.phase k
+    → run_in limits s k bs ≡ run_in limits u k bs
+unfolding run_in
+other s u c m k [] not-next by end = end
+other s u c m k (b ∷ bs) not-next by end =
+    ap (λ v. feed k v (λ t. run_in limits t (k + 1) bs)) (by b ∙ cond-false _ _ _ (ne_eqb b c (λ e. not-next (bs, ap (λ v. v ∷ bs) e))))
 
--- where the next byte is not c, a phase that asks for c refuses
-pub stray : (t : List ℕ) (s : State) (i c : ℕ) (m : Move)
-    → (Sees t i c → ⊥)
+-- and one that asks for c refuses
+stray : (s : State) (c : ℕ) (m : Move) (k : ℕ) (bs : List ℕ)
+    → ((more : List ℕ) × (bs ≡ c ∷ more) → ⊥)
     → ((b : ℕ) → next_in limits s s.phase b ≡ cond (eqb b c) m (stop Misfit))
-    → finish s s.phase i ≡ refused Misfit i
-    → reads t s i ≡ refused Misfit i
-stray t s i c m not-here by end =
-    ⊎_elim
-    (λ h. one t s i h
-    ∙ ap (λ x. feed i x (λ v. reads t v (i + 1))) (by (get_or t i 0) ∙ ap (λ x. cond x m (stop Misfit)) (ne_eqb _ c (λ e. not-here (h, e)))))
-    (λ h. over t s i h ∙ end)
-    (cases_lt i (length t))
+    → finish s s.phase k ≡ refused Misfit k
+    → run_in limits s k bs ≡ refused Misfit k
+unfolding run_in
+stray s c m k [] not-next by end = end
+stray s c m k (b ∷ bs) not-next by end =
+    ap (λ v. feed k v (λ t. run_in limits t (k + 1) bs)) (by b ∙ cond-false _ _ _ (ne_eqb b c (λ e. not-next (bs, ap (λ v. v ∷ bs) e))))
 
-module _ (t : List ℕ) (i : ℕ) where
-  -- `//` and `/` after a step
-  pub edge_two : Sees t i 47 → Sees t (i + 1) 47 → (s : State) → reads t (to s step) i ≡ reads t (to s (edge Descendant)) (i + 1 + 1)
-  edge_two h h' s = seen t (to s step) i 47 h ∙ seen t (to s slash) (i + 1) 47 h'
+module _ (x y : Spot) where
+  -- the lead
+  pub lead_not : (f : Fault) → Passed {A = Unit {0}} 47 x y (Err f) → Led x y (Err f)
+  lead_not f a = stray start 47 _ x.place x.rest a.0 (λ b. refl) refl ∙ ap Err (sym a.1)
 
-  pub edge_one : Sees t i 47 → (Sees t (i + 1) 47 → ⊥) → (s : State) → reads t (to s step) i ≡ reads t (to s (edge Child)) (i + 1)
-  edge_one h n s = seen t (to s step) i 47 h ∙ other t (to s slash) (to s (edge Child)) (i + 1) 47 _ n (λ b. refl) refl
+  pub lead_any : (z : Spot) → Accepted 47 x y true → Accepted 47 y z true → Led x z (Ok Any)
+  lead_any z a b = taken x y 47 a start ∙ taken y z 47 b (to start lead)
+
+  pub lead_top : (z : Spot) → Accepted 47 x y true → Accepted 47 y z false → Led x z (Ok Top)
+  lead_top z a b =
+      subst (λ v. Led x v (Ok Top)) (sym b.1)
+      (taken x y 47 a start ∙ other (to start lead) (record { mark = Top; nodes = []; holder = 0; brackets = []; phase = edge Child }) 47 _ y.place y.rest b.0 (λ c. refl) refl)
+
+  -- an edge after its first `/`
+  pub edge_two : Accepted 47 x y true → Edged slash x y (Ok Descendant)
+  edge_two a = (omega (arith, shorter x y 47 a), λ s. taken x y 47 a (to s slash))
+
+  pub edge_one : Accepted 47 x y false → Edged slash x y (Ok Child)
+  edge_one a =
+      subst (λ v. Edged slash x v (Ok Child)) (sym a.1)
+      (omega arith, λ s. other (to s slash) (to s (edge Child)) 47 _ x.place x.rest a.0 (λ b. refl) refl)
 
   -- what follows `[`
-  pub inner_none : (Sees t i 46 → ⊥) → (s : State) → reads t (to s bracket) i ≡ reads t (to s (edge Child)) i
-  inner_none n s = other t (to s bracket) (to s (edge Child)) i 46 _ n (λ b. refl) refl
+  pub inner_none : Accepted 46 x y false → Edged bracket x y (Ok Child)
+  inner_none a =
+      subst (λ v. Edged bracket x v (Ok Child)) (sym a.1)
+      (omega arith, λ s. other (to s bracket) (to s (edge Child)) 46 _ x.place x.rest a.0 (λ b. refl) refl)
 
-  inner_dot : Sees t i 46 → (s : State) → reads t (to s bracket) i ≡ reads t (to s dot) (i + 1)
-  inner_dot h s = seen t (to s bracket) i 46 h
+  module _ (z : Spot) (a : Accepted 46 x y true) where
+    pub inner_first : (f : Fault) → Passed {A = Unit {0}} 47 y z (Err f) → Edged bracket x z (Err f)
+    inner_first f b s =
+        taken x y 46 a (to s bracket) ∙ stray (to s dot) 47 _ y.place y.rest b.0 (λ c. refl) refl ∙ ap Err (sym b.1)
 
-  inner_dot_slash : Sees t i 46 → Sees t (i + 1) 47 → (s : State) → reads t (to s bracket) i ≡ reads t (to s dot_slash) (i + 1 + 1)
-  inner_dot_slash h h' s = inner_dot h s ∙ seen t (to s dot) (i + 1) 47 h'
+    module _ (w : Spot) (b : Accepted 47 y z true) where
+      pub inner_second : (f : Fault) → Passed {A = Unit {0}} 47 z w (Err f) → Edged bracket x w (Err f)
+      inner_second f d s =
+          taken x y 46 a (to s bracket)
+          ∙ taken y z 47 b (to s dot)
+          ∙ stray (to s dot_slash) 47 _ z.place z.rest d.0 (λ c. refl) refl
+          ∙ ap Err (sym d.1)
 
-  pub inner_two : Sees t i 46 → Sees t (i + 1) 47 → Sees t (i + 1 + 1) 47 → (s : State) → reads t (to s bracket) i ≡ reads t (to s (edge Descendant)) (i + 1 + 1 + 1)
-  inner_two h h' h'' s = inner_dot_slash h h' s ∙ seen t (to s dot_slash) (i + 1 + 1) 47 h''
+      pub inner_two : Accepted 47 z w true → Edged bracket x w (Ok Descendant)
+      inner_two d = (
+        omega (arith, shorter x y 46 a, shorter y z 47 b, shorter z w 47 d),
+        λ s. taken x y 46 a (to s bracket) ∙ taken y z 47 b (to s dot) ∙ taken z w 47 d (to s dot_slash),
+      )
 
-  pub inner_first : Sees t i 46 → (Sees t (i + 1) 47 → ⊥) → (s : State) → reads t (to s bracket) i ≡ refused Misfit (i + 1)
-  inner_first h n s = inner_dot h s ∙ stray t (to s dot) (i + 1) 47 _ n (λ b. refl) refl
+-- a run of no byte, and of one more
+run_none : (v : Bool) (n : ℕ) → cond v (1 + n) 0 ≡ 0 → v ≡ false
+run_none true n e = absurd (omega (arith, e))
+run_none false n e = refl
 
-  pub inner_second : Sees t i 46 → Sees t (i + 1) 47 → (Sees t (i + 1 + 1) 47 → ⊥) → (s : State) → reads t (to s bracket) i ≡ refused Misfit (i + 1 + 1)
-  inner_second h h' n s = inner_dot_slash h h' s ∙ stray t (to s dot_slash) (i + 1 + 1) 47 _ n (λ b. refl) refl
+run_more : (v : Bool) (n m : ℕ) → cond v (1 + n) 0 ≡ suc m → (v ≡ true) × (n ≡ m)
+run_more true n m e = (refl, omega (arith, e))
+run_more false n m e = absurd (omega (arith, e))
 
-  -- the name's end
-  pub name_end : (i < length t → name_byte (get_or t i 0) ≡ false) → (s : State) (e : Edge) (n : List ℕ) → reads t (to s (inside e n)) i ≡ reads t (settle s e n) i
-  name_end f s e n =
+module _ (s : State) (e : Edge) where
+  -- a name that has the bytes a, and one more
+  name_more : (a : List ℕ) (k b : ℕ) (bs : List ℕ) → name_byte b ≡ true → length a < 32 → run_in limits (to s (inside e a)) k (b ∷ bs) ≡ run_in limits (to s (inside e (a ++ b ∷ []))) (k + 1) bs
+  unfolding run_in
+  name_more a k b bs is few =
+      ap (λ v. feed k v (λ t. run_in limits t (k + 1) bs)) (cond-true _ _ _ is ∙ cond-false _ _ _ (lt-leb 32 (length a) few))
+
+  -- the rest of a name, which n bytes are, and of one that is too long
+  name_rest : (bs : List ℕ) (n : ℕ) (a : List ℕ) (k : ℕ) → prefix_len name_byte bs ≡ n → length a + n ≤ 32
+      → run_in limits (to s (inside e a)) k bs ≡ run_in limits (settle s e (a ++ take n bs)) (k + n) (drop n bs)
+  unfolding run_in
+  name_rest [] zero a k r few = let z : k ≡ k + 0 = omega arith in λ i. run_in limits (settle s e (sym (append-nil a) i)) (z i) []
+  name_rest [] (suc n) a k r few = absurd (omega (arith, r))
+  name_rest (b ∷ bs) zero a k r few =
+      let z : k ≡ k + 0 = omega arith in
+      ap (λ v. feed k v (λ t. run_in limits t (k + 1) bs)) (cond-false _ _ _ (run_none _ _ r))
+      ∙ (λ i. run_in limits (settle s e (sym (append-nil a) i)) (z i) (b ∷ bs))
+  name_rest (b ∷ bs) (suc n) a k r few =
+      let m = run_more (name_byte b) _ n r in
+      let z : k + 1 + n ≡ k + suc n = omega arith in
+      name_more a k b bs m.0 (omega (arith, few))
+      ∙ name_rest bs n (a ++ b ∷ []) (k + 1) m.1 (omega (arith, few, length_push a b))
+      ∙ (λ i. run_in limits (settle s e (append_assoc a (b ∷ []) (take n bs) i)) (z i) (drop n bs))
+
+  name_long : (bs : List ℕ) (n : ℕ) (a : List ℕ) (k : ℕ) → prefix_len name_byte bs ≡ n → length a ≤ 32 → 32 < length a + n
+      → run_in limits (to s (inside e a)) k bs ≡ refused PatternNameTooLong (k + (32 - length a))
+  unfolding run_in
+  name_long [] n a k r few many = absurd (omega (arith, r, few, many))
+  name_long (b ∷ bs) zero a k r few many = absurd (omega (arith, few, many))
+  name_long (b ∷ bs) (suc n) a k r few many =
+      let m = run_more (name_byte b) _ n r in
       ⊎_elim
-      (λ h. one t (to s (inside e n)) i h
-      ∙ ap (λ x. feed i (cond x (cond (leb 32 (length n)) (stop PatternNameTooLong) (go (to s (inside e (n ++ get_or t i 0 ∷ []))))) (beyond_in limits (settle s e n) (get_or t i 0))) (λ v. reads t v (i + 1))) (f h)
-      ∙ sym (one t (settle s e n) i h))
-      (λ h. over t (to s (inside e n)) i h ∙ sym (over t (settle s e n) i h))
-      (cases_lt i (length t))
+      (λ (l : length a < 32).
+      let z : k + 1 + (32 - length (a ++ b ∷ [])) ≡ k + (32 - length a) = omega (arith, l, length_push a b) in
+      name_more a k b bs m.0 l
+      ∙ name_long bs n (a ++ b ∷ []) (k + 1) m.1 (omega (arith, l, length_push a b)) (omega (arith, many, length_push a b))
+      ∙ ap (refused PatternNameTooLong) z)
+      (λ (l : 32 ≤ length a).
+      let z : k ≡ k + (32 - length a) = omega (arith, l) in
+      ap (λ v. feed k v (λ t. run_in limits t (k + 1) bs)) (cond-true _ _ _ m.0 ∙ cond-true _ _ _ (le-leb 32 (length a) l))
+      ∙ ap (refused PatternNameTooLong) z)
+      (cases_lt (length a) 32)
 
--- `.//` by two calls of `expect`, with the text t' after the first and t'' after the second
-pub two_passed : (t t' t'' : List ℕ) (i j k : ℕ) → Sees t i 46 → Sees t (i + 1) 47 × (j ≡ i + 1 + 1) → t' ≡ t → Sees t' j 47 × (k ≡ j + 1) → t'' ≡ t'
-    → (i ≤ k) × ((s : State) → reads t (to s bracket) i ≡ reads t'' (to s (edge Descendant)) k)
-two_passed t t' t'' i j k h a e b e' =
-    let h'' : Sees t (i + 1 + 1) 47 = subst (λ x. Sees x (i + 1 + 1) 47) e (subst (λ x. Sees t' x 47) a.1 b.0) in
-    let k-is : k ≡ i + 1 + 1 + 1 = omega (arith, a.1, b.1) in
-    (omega arith, λ s. inner_two t i h a.0 h'' s ∙ (λ z. reads (sym (e' ∙ e) z) (to s (edge Descendant)) (sym k-is z)))
+  -- after an edge: no name, a name for which there is no room, one that is too long, and one that is not
+  pub name_not : (k : ℕ) (bs : List ℕ) → begins_name bs ≡ false → run_in limits (to s (edge e)) k bs ≡ refused Misfit k
+  unfolding run_in
+  name_not k [] b = refl
+  name_not k (c ∷ cs) b = ap (λ v. feed k v (λ t. run_in limits t (k + 1) cs)) (cond-false _ _ _ b)
 
-pub first_not : (t : List ℕ) (i : ℕ) (f : Fault) → Sees t i 46 → (Sees t (i + 1) 47 → ⊥) × (f ≡ fault Misfit (i + 1)) → (s : State) → reads t (to s bracket) i ≡ Err f
-first_not t i f h a s = inner_first t i h a.0 s ∙ ap Err (sym a.1)
+  pub name_full : (k : ℕ) (bs : List ℕ) → begins_name bs ≡ true → leb 16 (length s.nodes) ≡ true → run_in limits (to s (edge e)) k bs ≡ refused TooManySteps k
+  unfolding run_in
+  name_full k [] b full = absurd (true≢false (sym b))
+  name_full k (c ∷ cs) b full = ap (λ v. feed k v (λ t. run_in limits t (k + 1) cs)) (cond-true _ _ _ b ∙ cond-true _ _ _ full)
 
-pub second_not : (t t' : List ℕ) (i j : ℕ) (f : Fault) → Sees t i 46 → Sees t (i + 1) 47 × (j ≡ i + 1 + 1) → t' ≡ t → (Sees t' j 47 → ⊥) × (f ≡ fault Misfit j) → (s : State) → reads t (to s bracket) i ≡ Err f
-second_not t t' i j f h a e b s =
-    inner_second t i h a.0 (λ h''. b.0 (subst (λ x. Sees x j 47) (sym e) (subst (λ x. Sees t x 47) (sym a.1) h''))) s
-    ∙ ap (refused Misfit) (sym a.1)
-    ∙ ap Err (sym b.1)
+  name_first_byte : (k c : ℕ) (cs : List ℕ) → name_first c ≡ true → leb 16 (length s.nodes) ≡ false → run_in limits (to s (edge e)) k (c ∷ cs) ≡ run_in limits (to s (inside e (c ∷ []))) (k + 1) cs
+  unfolding run_in
+  name_first_byte k c cs b room = ap (λ v. feed k v (λ t. run_in limits t (k + 1) cs)) (cond-true _ _ _ b ∙ cond-false _ _ _ room)
 
--- within a name, on from place i with n bytes to place j with m bytes
-pub record NameSofar (t : List ℕ) (i : ℕ) (bytes : List ℕ) (n j : ℕ) (bytes' : List ℕ) (m : ℕ) : Type 0 where
-  pub same : (s : State) (e : Edge) → reads t (to s (inside e (take n bytes))) i ≡ reads t (to s (inside e (take m bytes'))) j
+  pub name_too_long : (k : ℕ) (bs : List ℕ) (n : ℕ) → begins_name bs ≡ true → leb 16 (length s.nodes) ≡ false → prefix_len name_byte bs ≡ n → 32 < n
+      → run_in limits (to s (edge e)) k bs ≡ refused PatternNameTooLong (k + 32)
+  name_too_long k [] n b room r many = absurd (true≢false (sym b))
+  name_too_long k (c ∷ cs) zero b room r many = absurd (omega (arith, many))
+  name_too_long k (c ∷ cs) (suc n) b room r many =
+      let z : k + 1 + (32 - 1) ≡ k + 32 = omega arith in
+      name_first_byte k c cs b room
+      ∙ name_long cs n (c ∷ []) (k + 1) (run_more (name_byte c) _ n r).1 (omega arith) (omega (arith, many))
+      ∙ ap (refused PatternNameTooLong) z
 
-pub by : (t : List ℕ) (s : State) (i : ℕ) {m : Move} → i < length t → next_in limits s s.phase (get_or t i 0) ≡ m → reads t s i ≡ feed i m (λ u. reads t u (i + 1))
-by t s i h e = one t s i h ∙ ap (λ x. feed i x (λ u. reads t u (i + 1))) e
+  pub name_read : (k : ℕ) (bs : List ℕ) (n : ℕ) → begins_name bs ≡ true → leb 16 (length s.nodes) ≡ false → prefix_len name_byte bs ≡ n → n ≤ 32
+      → run_in limits (to s (edge e)) k bs ≡ run_in limits (settle s e (take n bs)) (k + n) (drop n bs)
+  name_read k [] n b room r few = absurd (true≢false (sym b))
+  name_read k (c ∷ cs) zero b room r few = absurd (true≢false (sym (first_is_byte c b) ∙ run_none _ _ r))
+  name_read k (c ∷ cs) (suc n) b room r few =
+      let z : k + 1 + n ≡ k + suc n = omega arith in
+      name_first_byte k c cs b room
+      ∙ name_rest cs n (c ∷ []) (k + 1) (run_more (name_byte c) _ n r).1 (omega (arith, few))
+      ∙ (λ i. run_in limits (settle s e (c ∷ take n cs)) (z i) (drop n cs))
 
-module _ (t : List ℕ) (i : ℕ) (s : State) (e : Edge) where
-  pub name_none : (i < length t → name_first (get_or t i 0) ≡ false) → reads t (to s (edge e)) i ≡ refused Misfit i
-  name_none f =
-      ⊎_elim (λ h. by t (to s (edge e)) i h (cond-false _ _ _ (f h))) (λ h. over t (to s (edge e)) i h) (cases_lt i (length t))
+-- a name has a byte
+pub name_some : (bs : List ℕ) → begins_name bs ≡ true → 0 < prefix_len name_byte bs
+name_some [] b = absurd (true≢false (sym b))
+name_some (c ∷ cs) b = omega (arith, ap (λ v. cond v (1 + prefix_len name_byte cs) 0) (first_is_byte c b))
 
-  pub name_full : i < length t → name_first (get_or t i 0) ≡ true → 16 ≤ length s.nodes → reads t (to s (edge e)) i ≡ refused TooManySteps i
-  name_full h a f = by t (to s (edge e)) i h (cond-true _ _ _ a ∙ cond-true _ _ _ (le-leb 16 _ f))
+-- and is ASCII
+within_range : (lo hi b : ℕ) → hi < 128 → (leb lo b && leb b hi) ≡ true → b < 128
+within_range lo hi b h e = omega (arith, h, leb-true b hi (and_parts (leb lo b) _ e).1)
 
-  pub name_first_lem : i < length t → name_first (get_or t i 0) ≡ true → length s.nodes < 16 → reads t (to s (edge e)) i ≡ reads t (to s (inside e (get_or t i 0 ∷ []))) (i + 1)
-  name_first_lem h a f = by t (to s (edge e)) i h (cond-true _ _ _ a ∙ cond-false _ _ _ (lt-leb 16 _ f))
+is_byte : (c b : ℕ) → c < 128 → eqb b c ≡ true → b < 128
+is_byte c b h e = omega (arith, h, eqb-true b c e)
 
-  pub name_more : (n : List ℕ) → i < length t → name_byte (get_or t i 0) ≡ true → length n < 32 → reads t (to s (inside e n)) i ≡ reads t (to s (inside e (n ++ get_or t i 0 ∷ []))) (i + 1)
-  name_more n h a f = by t (to s (inside e n)) i h (cond-true _ _ _ a ∙ cond-false _ _ _ (lt-leb 32 _ f))
+either : (x y : Bool) (b : ℕ) → (x ≡ true → b < 128) → (y ≡ true → b < 128) → (x || y) ≡ true → b < 128
+either x y b p q e = ⊎_elim p q (or_cases x y e)
 
-  pub name_long : (n : List ℕ) → i < length t → name_byte (get_or t i 0) ≡ true → 32 ≤ length n → reads t (to s (inside e n)) i ≡ refused PatternNameTooLong i
-  name_long n h a f = by t (to s (inside e n)) i h (cond-true _ _ _ a ∙ cond-true _ _ _ (le-leb 32 _ f))
+ascii_byte : (b : ℕ) → name_byte b ≡ true → b < 128
+ascii_byte b =
+    either _ _ b
+    (either _ _ b
+    (either _ _ b
+    (either _ _ b (either _ _ b (within_range 65 90 b (omega arith)) (within_range 97 122 b (omega arith))) (is_byte 95 b (omega arith)))
+    (within_range 48 57 b (omega arith)))
+    (is_byte 45 b (omega arith)))
+    (is_byte 46 b (omega arith))
 
-module _ (t t' : List ℕ) (i : ℕ) (bytes : List ℕ) (n j : ℕ) (bytes' : List ℕ) (m : ℕ) (same_text : t' ≡ t) (long : length bytes' ≡ 32) (sofar : NameSofar t i bytes n j bytes' m) where
-  pub sofar_more : m < 32 → j < length t' → true ≡ name_byte (get_or t' j 0) → NameSofar t i bytes n (j + 1) (set bytes' m (get_or t' j 0)) (m + 1)
-  sofar_more few h a =
-      let P : List ℕ → Type 0 = λ x. (s : State) (e : Edge) → reads t (to s (inside e (take n bytes))) i ≡ reads t (to s (inside e (take (m + 1) (set bytes' m (get_or x j 0))))) (j + 1) in
-      let more : m < length bytes' = omega arith in
-      let size : length (take m bytes') < 32 = omega (arith, length-take-le m bytes' (omega arith)) in
-      let there : P t = λ s e. sofar.same s e
-      ∙ name_more t j s e (take m bytes') (subst (λ x. j < length x) same_text h) (sym (subst (λ x. true ≡ name_byte (get_or x j 0)) same_text a)) size
-      ∙ ap (λ x. reads t (to s (inside e x)) (j + 1)) (sym (take_more_set bytes' m (get_or t j 0) more)) in
-      record { same = subst P (sym same_text) there }
+ascii : (bs : List ℕ) → Every (λ b. name_byte b ≡ true) bs → IsAscii bs
+ascii [] h i = omega arith
+ascii (b ∷ bs) h zero = ascii_byte b h.0
+ascii (b ∷ bs) h (suc i) = ascii bs h.1 i
 
-  pub sofar_long : 32 ≤ m → m ≤ 32 → j < length t' → true ≡ name_byte (get_or t' j 0) → (s : State) (e : Edge) → reads t (to s (inside e (take n bytes))) i ≡ refused PatternNameTooLong j
-  sofar_long much few h a s e =
-      let size : 32 ≤ length (take m bytes') = omega (arith, length-take-le m bytes' (omega arith)) in
-      sofar.same s e
-      ∙ name_long t j s e (take m bytes') (subst (λ x. j < length x) same_text h) (sym (subst (λ x. true ≡ name_byte (get_or x j 0)) same_text a)) size
+pub name_utf8 : (bs : List ℕ) (n : ℕ) → n ≡ prefix_len name_byte bs → IsUtf8 (take n bs)
+name_utf8 bs n r = subst (λ k. IsUtf8 (take k bs)) (sym r) (IsUtf8-from_ascii _ (ascii _ (all_leading name_byte bs)))
 
-  pub sofar_end : (j < length t' → name_byte (get_or t' j 0) ≡ false) → (s : State) (e : Edge) → reads t (to s (inside e (take n bytes))) i ≡ reads t' (settle s e (take m bytes')) j
-  sofar_end f s e =
-      sofar.same s e
-      ∙ name_end t j (subst (λ x. j < length x → name_byte (get_or x j 0) ≡ false) same_text f) s e (take m bytes')
-      ∙ ap (λ x. reads x (settle s e (take m bytes')) j) (sym same_text)
+pub valid : {T E Q : Type 0} (P : T → Type 0) (W : E → Type 0) (r : Result T E) → Q → MatchResult r P (λ e. (Q → ⊥) × W e) → IsOk r
+valid P W (Ok x) q h = refl
+valid P W (Err e) q h = absurd (h.0 q)

@@ -9,7 +9,7 @@ use Rattle.pattern.specs.declared.node.Mark.TheVariants.{Top, Any}
 use Rattle.std.specs.List.{AllByRecursion as Every}
 use Rattle.markup.specs.Name.{LawfulName}
 use Rattle.pattern.specs.Shape.{Vertex, Shape, node, shape, LawfulTwig}
-use Rattle.pattern.specs.Reading.{Limits, limits, up_to, granted, read_pattern, reads, start}
+use Rattle.pattern.specs.Reading.{Limits, limits, up_to, granted, read_pattern, run_in, start}
 use Rattle.pattern.specs.Spelling.{lead_text, rest, spelling}
 use Rattle.pattern.specs.Grammar.{Derives}
 use Rattle.pattern.proofs.Tails.{Tail, end, onward, branch, text_of, nodes_of_tail, size, Within, Standard, DerivesTail}
@@ -17,7 +17,7 @@ use Rattle.pattern.proofs.Preorder.{among, onto, Preorder, from_preorder, to_pre
 use Rattle.pattern.specs.Promises.{GrantedIsWhatTheGrammarDerives, GrantedIsLawful, SpellingsReadBack, OneStandardSpelling, SameSpellingSameTwig}
 use Rattle.pattern.proofs.Syntax.{to_derives, from_derives, to_standard, from_standard}
 use Rattle.pattern.proofs.Sound.{length-nodes, sound}
-use Rattle.pattern.proofs.Exact.{exact, exact_reads, same_twig, no_grant}
+use Rattle.pattern.proofs.Exact.{exact, exact_in, same_twig, no_grant}
 use Rattle.pattern.proofs.Standard.{std, Names, nodes_std, standard_std, std_same, within_std, text_size, spelt_root}
 
 -- The path to a node: those before h are above it in number.
@@ -213,8 +213,8 @@ pub same_spelling : SameSpellingSameTwig
 same_spelling t t' w w' e e' =
     (λ s. same_twig w w' (sym (back w (granted_lawful t w e)) ∙ ap read_pattern s ∙ back w' (granted_lawful t' w' e')), λ s. ap spelling s)
 
-pub read_lawful : (t : List ℕ) (m : Mark) (vs : List Vertex) → reads t start 0 ≡ granted m vs → LawfulTwig vs
-read_lawful t m vs e = lawful 8 t m vs (exact_reads t m vs e)
+pub read_lawful : (t : List ℕ) (m : Mark) (vs : List Vertex) → run_in limits start 0 t ≡ granted m vs → LawfulTwig vs
+read_lawful t m vs e = lawful 8 t m vs (exact_in limits (omega arith) t m vs e)
 
 -- what is refused is not derived
 pub not_derived : (t : List ℕ) (f : Fault) → read_pattern t ≡ Err f → (w : Shape) → length t ≤ 1024 → Derives limits t w → ⊥

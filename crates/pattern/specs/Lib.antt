@@ -1,4 +1,6 @@
 pub mod Shape
+pub mod Spot
+pub mod Nodes
 pub mod Table
 pub mod Reading
 pub mod Spelling

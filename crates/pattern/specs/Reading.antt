@@ -1,5 +1,5 @@
 -- What a pattern text is read as: its bytes are taken one by one from the left, and the first that is not taken decides.
-use Rattle.std.specs.Prelude.{ℕ, ◌+◌, cond, List, [], ◌∷◌, ◌++◌, length, drop, Ok, Err, Result, ◌==◌, nat_le}
+use Rattle.std.specs.Prelude.{ℕ, ◌+◌, cond, List, [], ◌∷◌, ◌++◌, length, Ok, Err, Result, ◌==◌, nat_le}
 use Rattle.markup.specs.declared.fault.Fault.{Fault}
 use Rattle.markup.specs.declared.fault.Refusal.{Refusal}
 use Rattle.markup.specs.declared.fault.Refusal.TheVariants.{PatternTooLong, Misfit, TooManySteps, PatternNameTooLong}
@@ -144,7 +144,3 @@ start = record { mark = Any; nodes = []; holder = 0; brackets = []; phase = noth
 -- what a text is read as: a twig, or a refusal with its place
 abbrev pub read_pattern : List ℕ → Result Shape Fault
 read_pattern t = cond (nat_le (length t) 1024) (run_in limits start 0 t) (refused PatternTooLong 1024)
-
--- what is left of a text from place i on is read as, in the state s
-unfoldable pub reads : List ℕ → State → ℕ → Result Shape Fault
-reads t s i = run_in limits s i (drop i t)

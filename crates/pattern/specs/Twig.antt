@@ -8,12 +8,12 @@ use Rattle.pattern.specs.declared.node.Edge.{Edge}
 use Rattle.pattern.specs.declared.twig.Twig.{Twig}
 use Rattle.pattern.specs.Shape.{Vertex, Shape, shape, node_at, IsChild}
 use Rattle.pattern.specs.Table.{vertices}
-use Rattle.pattern.specs.Reading.{limits, start, reads, read_pattern}
+use Rattle.pattern.specs.Reading.{limits, run_in, start, read_pattern}
 use Rattle.pattern.specs.Grammar.{Derives}
 
 -- the twig that a `Twig` stands for
 abbrev pub shape_of : Twig → Shape
-shape_of w = shape w.mark (vertices w.nodes w.len)
+shape_of w = shape w.mark (vertices w.nodes.items)
 
 -- the name of node i: none past the last node
 abbrev pub NameOf : List Vertex → ℕ → Option (Bor (List ℕ)) → Type 0
@@ -37,8 +37,8 @@ NextChild nodes p after None = (c : ℕ) → after < c → IsChild nodes p c →
 
 -- what a text was parsed to, whatever its length
 abbrev pub Parsed : List ℕ → Result Twig Fault → Type 0
-Parsed t (Ok w) = reads t start 0 ≡ Ok (shape_of w)
-Parsed t (Err f) = reads t start 0 ≡ Err f
+Parsed t (Ok w) = run_in limits start 0 t ≡ Ok (shape_of w)
+Parsed t (Err f) = run_in limits start 0 t ≡ Err f
 
 -- The twig a was turned to the text t, and is now b; a refusal leaves it.
 abbrev pub TurnedTo : {A : Type 0} → List ℕ → Twig → Twig → Result A Fault → Type 0

@@ -2,10 +2,10 @@
 // `docs/PATTERN.md` has the rules.
 #![tactic(auto)]
 
-mod buffer;
+mod cursor;
 mod laws;
 mod node;
-mod parser;
+mod nodes;
 mod questions;
 mod reader;
 mod reading;

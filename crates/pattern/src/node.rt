@@ -1,6 +1,5 @@
 // The parts of a twig.
-ghost use Rattle.std.specs.Prelude.{◌<◌, ◌≤◌};
-
+use arrayvec::ArrayString;
 use markup::name;
 
 // How a node hangs on its parent: as a child, or anywhere below it.
@@ -17,19 +16,19 @@ pub enum Mark {
     Any,
 }
 
-// A name: the first `len` bytes.
+// What a node hangs on: the number of its parent, and the edge to it.
 #[derive(Clone, Copy)]
-pub(crate) struct Name {
-    pub(crate) bytes: [u8; name::MOST_BYTES],
-    pub(crate) len: usize,
-    ghost some: { 0 < len },
-    ghost short: { len ≤ 32 },
+pub(crate) struct Hook {
+    pub(crate) parent: usize,
+    pub(crate) edge: Edge,
 }
 
-// A node with its name, the number of its parent and the edge to it.
+// A name. Its bytes are ASCII.
+pub(crate) type Name = ArrayString<{ name::MOST_BYTES }>;
+
+// A node. The root hangs on nothing.
 #[derive(Clone, Copy)]
 pub(crate) struct Node {
     pub(crate) name: Name,
-    pub(crate) parent: usize,
-    pub(crate) edge: Edge,
+    pub(crate) hook: Option<Hook>,
 }

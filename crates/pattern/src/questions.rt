@@ -1,39 +1,39 @@
 // Questions about a node of a twig. Each takes any number.
+ghost use Rattle.std.specs.Slice.{IsItemAt};
+ghost use Rattle.pattern.specs.Nodes.{Hung};
 ghost use Rattle.pattern.specs.Twig.{shape_of, NameOf, ParentOf, EdgeOf, NextChild};
 
-use super::node::Edge;
+use super::node::{Edge, Node};
 use super::twig::Twig;
 
 impl Twig {
+    // Node i; none past the last node.
+    fn node(&self, i: usize) -> Option<&Node>
+        ensures item { IsItemAt self.now.nodes.items i result }
+        ensures hung { Hung self.now.nodes.items }
+    {
+        self.nodes.as_slice().get(i)
+    }
+
     // The name of node i; none past the last node.
     pub fn name(&self, i: usize) -> Option<&[u8]>
         ensures { NameOf (shape_of self.now).nodes i result }
     {
-        if i >= self.len {
-            return None;
-        }
-        let name = &self.nodes[i].name;
-        Some(&name.bytes[0..name.len])
+        Some(self.node(i)?.name.as_bytes())
     }
 
     // The parent of node i, which has a lower number; none for the root and past the last node.
     pub fn parent(&self, i: usize) -> Option<usize>
         ensures { ParentOf (shape_of self.now).nodes i result }
     {
-        if i == 0 || i >= self.len {
-            return None;
-        }
-        Some(self.nodes[i].parent)
+        Some(self.node(i)?.hook?.parent)
     }
 
     // The edge from node i to its parent; none for the root and past the last node.
     pub fn edge(&self, i: usize) -> Option<Edge>
         ensures { EdgeOf (shape_of self.now).nodes i result }
     {
-        if i == 0 || i >= self.len {
-            return None;
-        }
-        Some(self.nodes[i].edge)
+        Some(self.node(i)?.hook?.edge)
     }
 
     // The first child of node i with a number above `after`, by either edge. With `after` first i and then each answer, this goes over
@@ -41,11 +41,6 @@ impl Twig {
     pub fn next_child(&self, i: usize, after: usize) -> Option<usize>
         ensures { NextChild (shape_of self.now).nodes i after result }
     {
-        for c in 1..self.len {
-            if c > after && self.nodes[c].parent == i {
-                return Some(c);
-            }
-        }
-        None
+        (0..self.len()).find(|c| *c > after && self.parent(*c) == Some(i))
     }
 }

@@ -19,6 +19,6 @@ impl Twig {
         ensures some { 1 ≤ result }
         ensures few { result ≤ 16 }
     {
-        self.len
+        self.nodes.as_slice().len()
     }
 }

@@ -1,20 +1,13 @@
-// A twig: the first `len` nodes, in the order of their names in the text.
-ghost use Rattle.std.specs.Prelude.{◌≡◌, ◌<◌, ◌≤◌, length};
+// A twig.
 ghost use Rattle.pattern.specs.Shape.{LawfulTwig};
 ghost use Rattle.pattern.specs.Table.{vertices};
 
-use super::node::{Mark, Node};
-
-// The most nodes that a twig has.
-pub(crate) const MOST_NODES: usize = 16;
+use super::node::Mark;
+use super::nodes::Nodes;
 
 #[derive(Clone, Copy)]
 pub struct Twig {
     pub(crate) mark: Mark,
-    pub(crate) nodes: [Node; MOST_NODES],
-    pub(crate) len: usize,
-    ghost some: { 0 < len },
-    ghost few: { len ≤ 16 },
-    ghost table: { length nodes ≡ 16 },
-    ghost lawful: { ∥ LawfulTwig (vertices nodes len) ∥₁ },
+    pub(crate) nodes: Nodes,
+    ghost lawful: { ∥ LawfulTwig (vertices nodes.items) ∥₁ },
 }

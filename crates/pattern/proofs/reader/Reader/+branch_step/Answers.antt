@@ -1,149 +1,124 @@
-use Rattle.std.proofs.Common.{◌≡◌, ℕ, List, ◌∷◌, length, Err, sym, ap, ◌∙◌, arith, rules}
-use Rattle.std.proofs.lemmas.Result.{err_from_is_err_and, IfOk-from_err}
+use Rattle.std.proofs.Common.{◌≡◌, ℕ, ◌+◌, true, false, List, ◌∷◌, length, ap, ◌∙◌, arith}
+use Rattle.std.proofs.lemmas.List.{length_push}
+use Rattle.std.proofs.lemmas.Result.{err_from_is_err_and}
 use Rattle.pattern.specs.declared.node.Mark.{Mark}
-use Rattle.pattern.specs.Reading.{edge, step, bracket}
+use Rattle.pattern.specs.Reading.{edge, step}
+use Rattle.pattern.specs.Table.{parent_of, edge_of}
 use Rattle.pattern.specs.Moves.{outcome}
-use Rattle.pattern.proofs.Progress.{state, edged, passed, begun, opens, opens_not, closes, closes_not, deeper}
-use Rattle.pattern.proofs.Tables.{length-vertices}
+use Rattle.pattern.proofs.Steps.{taken, shorter}
+use Rattle.pattern.proofs.Progress.{state, begun, begun_not, onward, opened, opens_not, enters, enters_not, closes_not, deeper}
 use Rattle.pattern.proofs.reader.Reader.+branch_step.Goals as goal
-use Rattle.pattern.proofs.reader.Reader.+branch_step.Goals.{step-After-push-number, step-In_ok-edge, step-In_ok-branch}
+use Rattle.pattern.proofs.reader.Reader.+branch_step.Goals.{step-In_ok-edge, step-In_ok-branch}
 
--- `branch`: to the edge of one more step
-pub branch-returns-in_err-last-2 : goal.branch-returns-in_err-last-2
-branch-returns-in_err-last-2 t c =
+-- `branch`: to one more step
+pub branch-step-requires-in-loop-self : goal.branch-step-requires-in-loop-self
+branch-step-requires-in-loop-self t c = (omega (arith, c.loop-self.invariant.0.0, shorter _ _ _ c.loop-self-test.ensures, c.edge-edge.ensures.0), c.loop-self.invariant.0.2)
+
+pub branch-returns-in_err-last-2-clause-told : goal.branch-returns-in_err-last-2-clause-told
+branch-returns-in_err-last-2-clause-told t c =
     let r = c.from_residual-in_err-last-2 in
     let p = err_from_is_err_and r.result r.ensures.1 in
-    let e = c.edge-edge.ensures in
-    record {
-      kept = search rules;
-      told = rw (p.1, p.2) (λ m hs d.
-          c.in_ok-last.ensures.told.1 m hs d
-          ∙ c.loop-self.invariant.3.same m hs d
-          ∙ edged c.loop-self.self c.edge-edge.new.self e.kept _ m _ hs step _ e.told.1
-          ∙ c.in_err-last-2.ensures.told m hs d);
-      stops = IfOk-from_err _ _ r.ensures.0;
-    }
+    rw (p.1, p.2) (λ m hs d.
+    c.loop-self.invariant.0.3 m hs d
+    ∙ onward _ _ _ _ c.loop-self-test.ensures c.edge-edge.ensures (state c.loop-self.self m c.loop-self.last hs step)
+    ∙ c.in_err-last-2.ensures.told m hs d)
 
 pub branch-loop-self-preserved : goal.branch-loop-self-preserved
 branch-loop-self-preserved t c =
-    let e = c.edge-edge.ensures in (
-      search rules,
-      omega (arith, c.in_ok-last-2.ensures.told.0, e.told.0),
+    let i = c.loop-self.invariant.0 in
+    let s = c.in_ok-last-2.ensures.told in (
+      (
+        omega (arith, i.0, s.0, shorter _ _ _ c.loop-self-test.ensures, c.edge-edge.ensures.0),
+        omega (arith, i.1, s.1),
+        s.2,
+        λ m hs d.
+            i.3 m hs d
+            ∙ onward _ _ _ _ c.loop-self-test.ensures c.edge-edge.ensures (state c.loop-self.self m c.loop-self.last hs step)
+            ∙ s.3 m hs d,
+      ),
       c.in_ok-last-2.ensures.stops,
-      record {
-        same = λ m hs d.
-            c.loop-self.invariant.3.same m hs d
-            ∙ edged c.loop-self.self c.edge-edge.new.self e.kept _ m _ hs step _ e.told.1
-            ∙ c.in_ok-last-2.ensures.told.1 m hs d;
-      },
     )
 
+pub branch-returns-clause-told : goal.branch-returns-clause-told
+branch-returns-clause-told t c = rw c.loop-self-test.ensures.1 c.loop-self.invariant.0
+
+pub branch-returns-clause-stops : goal.branch-returns-clause-stops
+branch-returns-clause-stops t c = rw c.loop-self-test.ensures.1 (c.loop-self.invariant.1, c.loop-self-test.ensures.0)
+
 -- `step`: the name and the new node
-start : (t : ℕ) (c : step-After-push-number t) (m : Mark) (hs : List ℕ) → outcome c.args.self.now m c.args.parent hs (edge c.args.edge) ≡ outcome c.push-number.new.self m c.push-number.result hs step
-start t c m hs =
-    let n = c.name.ensures in
-    let p = c.push-number.ensures in
-    begun c.args.self.now c.name.new.self c.push-number.new.self c.in_ok-name.name _ _ _ n.kept c.in_ok-name.ensures.told p.pushed p.number m hs
+pub step-returns-in_err-name-clause-told : goal.step-returns-in_err-name-clause-told
+step-returns-in_err-name-clause-told t c =
+    let p = err_from_is_err_and c.from_residual.result c.from_residual.ensures.1 in
+    rw (p.1, p.2) (λ m hs d. begun_not c.args.self.now c.name.new.self c.args.hook _ _ c.is_full.ensures c.in_err-name.ensures m hs)
 
-pub step-returns-in_err-name : goal.step-returns-in_err-name
-step-returns-in_err-name t c =
-    let r = c.from_residual in
+pub step-loop-self-init : goal.step-loop-self-init
+step-loop-self-init t c =
+    let p = c.push-node.ensures in
+    let n = c.in_ok-name.ensures in
+    let more : length c.push-node.new.self.items ≡ length c.args.self.now.nodes.items + 1 = ap length p.items ∙ length_push c.args.self.now.nodes.items _ in (
+      n.0,
+      omega (arith, more),
+      omega (arith, more, p.number),
+      λ m hs d. begun c.args.self.now _ c.push-node.new.self _ _ _ _ c.is_full.ensures n p.items p.number m hs,
+    )
+
+-- a bracket, its edge, its branch and its end
+pub step-returns-in_err-open-clause-told : goal.step-returns-in_err-open-clause-told
+step-returns-in_err-open-clause-told t c =
+    let r = c.from_residual-in_err-open in
     let p = err_from_is_err_and r.result r.ensures.1 in
-    record {
-      kept = search rules;
-      told = rw (p.1, p.2) (λ m hs d. c.in_err-name.ensures.told (state c.args.self.now m c.args.parent hs step) _ (length-vertices _ _ (omega (arith, c.args.self.now.table, c.args.self.now.few))));
-      stops = IfOk-from_err _ _ r.ensures.0;
-    }
+    rw (p.1, p.2) (λ m hs d. c.loop-self.invariant.3 m hs d ∙ opens_not c.loop-self.self _ m _ hs d c.open.new.self _ c.in_err-open.ensures)
 
-pub step-returns-then-depth-ge-MOST_BRACKETS : goal.step-returns-then-depth-ge-MOST_BRACKETS
-step-returns-then-depth-ge-MOST_BRACKETS t c = record {
-  kept = search rules;
-  told = λ m hs d.
-      start t (goal.at.step-returns-then-depth-ge-MOST_BRACKETS t c).After-push-number m hs
-      ∙ c.loop-self.invariant.2.same m hs d
-      ∙ opens_not c.loop-self.self m _ hs c.loop-self-test.ensures (omega (arith, d))
-      ∙ ap Err (sym c.refuse.ensures);
-  stops = tt;
-}
-
-pub step-returns-in_err-edge : goal.step-returns-in_err-edge
-step-returns-in_err-edge t c =
+pub step-returns-in_err-edge-clause-told : goal.step-returns-in_err-edge-clause-told
+step-returns-in_err-edge-clause-told t c =
     let r = c.from_residual-in_err-edge in
     let p = err_from_is_err_and r.result r.ensures.1 in
-    record {
-      kept = search rules;
-      told = rw (p.1, p.2) (λ m hs d.
-          start t (goal.at.step-returns-in_err-edge t c).After-push-number m hs
-          ∙ c.loop-self.invariant.2.same m hs d
-          ∙ opens c.loop-self.self m _ hs c.loop-self-test.ensures (omega (arith, d, c.if-depth-ge-MOST_BRACKETS.false))
-          ∙ c.in_err-edge.ensures.told (state c.loop-self.self m c.push-number.result (c.push-number.result ∷ hs) bracket));
-      stops = IfOk-from_err _ _ r.ensures.0;
-    }
+    let o = opened _ _ _ _ true c.if-branch.true c.in_ok-open.ensures in
+    rw (p.1, p.2) (λ m hs d. c.loop-self.invariant.3 m hs d ∙ enters_not c.loop-self.self _ m _ hs d _ o c.inner_edge.new.self _ c.in_err-edge.ensures)
 
--- from a turn's start into the branch, and to the branch's end
-enter : (t : ℕ) (c : step-In_ok-edge t) (m : Mark) (hs : List ℕ) → length hs ≡ c.args.depth → outcome c.loop-self.self m c.push-number.result hs step ≡ outcome c.inner_edge.new.self m c.push-number.result (c.push-number.result ∷ hs) (edge c.in_ok-edge.edge)
-enter t c m hs d =
-    let e = c.inner_edge.ensures in
-    opens c.loop-self.self m _ hs c.loop-self-test.ensures (omega (arith, d, c.if-depth-ge-MOST_BRACKETS.false))
-    ∙ edged c.loop-self.self c.inner_edge.new.self e.kept _ m _ _ bracket _ c.in_ok-edge.ensures.told.1
+pub step-branch-self-requires : goal.step-branch-self-requires
+step-branch-self-requires t c =
+    let o = opened _ _ _ _ true c.if-branch.true c.in_ok-open.ensures in
+    (omega (arith, c.loop-self.invariant.0, shorter _ _ _ o.0, c.in_ok-edge.ensures.0), c.loop-self.invariant.2)
 
-cross : (t : ℕ) (c : step-In_ok-branch t) (m : Mark) (hs : List ℕ) → length hs ≡ c.args.depth → outcome c.inner_edge.new.self m c.push-number.result (c.push-number.result ∷ hs) (edge c.in_ok-edge.edge) ≡ outcome c.branch-self.new.self m c.in_ok-branch.field-0 (c.push-number.result ∷ hs) step
-cross t c m hs d =
-    c.in_ok-branch.ensures.told.1 m (c.push-number.result ∷ hs) (deeper c.push-number.result hs _ d)
+entered : (t : ℕ) (c : step-In_ok-edge t) (m : Mark) (hs : List ℕ) → length hs ≡ c.args.depth
+    → outcome c.args.self.now m (parent_of c.args.hook) hs (edge (edge_of c.args.hook))
+    ≡ outcome (record { cursor = c.inner_edge.new.self; nodes = c.loop-self.self.nodes }) m c.push-node.result (c.push-node.result ∷ hs) (edge c.in_ok-edge.edge)
+entered t c m hs d =
+    let o = opened _ _ _ _ true c.if-branch.true c.in_ok-open.ensures in
+    c.loop-self.invariant.3 m hs d ∙ enters c.loop-self.self _ m _ hs d _ o _ _ c.in_ok-edge.ensures
 
-pub step-returns-in_err-branch : goal.step-returns-in_err-branch
-step-returns-in_err-branch t c =
+pub step-returns-in_err-branch-clause-told : goal.step-returns-in_err-branch-clause-told
+step-returns-in_err-branch-clause-told t c =
     let r = c.from_residual-in_err-branch in
     let p = err_from_is_err_and r.result r.ensures.1 in
-    let f = goal.at.step-returns-in_err-branch t c in
-    record {
-      kept = search rules;
-      told = rw (p.1, p.2) (λ m hs d.
-          start t f.After-push-number m hs
-          ∙ c.loop-self.invariant.2.same m hs d
-          ∙ enter t f.In_ok-edge m hs d
-          ∙ c.in_err-branch.ensures.told m (c.push-number.result ∷ hs) (deeper c.push-number.result hs _ d));
-      stops = IfOk-from_err _ _ r.ensures.0;
-    }
+    let f = goal.at.step-returns-in_err-branch-clause-told t c in
+    rw (p.1, p.2) (λ m hs d. entered t f.In_ok-edge m hs d ∙ c.in_err-branch.ensures.told m (c.push-node.result ∷ hs) (deeper c.push-node.result hs _ d))
+
+crossed : (t : ℕ) (c : step-In_ok-branch t) (m : Mark) (hs : List ℕ) → length hs ≡ c.args.depth
+    → outcome c.args.self.now m (parent_of c.args.hook) hs (edge (edge_of c.args.hook)) ≡ outcome c.branch-self.new.self m c.in_ok-branch.field-0 (c.push-node.result ∷ hs) step
+crossed t c m hs d =
+    entered t (goal.at.step-In_ok-branch t c).In_ok-edge m hs d ∙ c.in_ok-branch.ensures.told.3 m (c.push-node.result ∷ hs) (deeper c.push-node.result hs _ d)
 
 pub step-loop-self-preserved : goal.step-loop-self-preserved
 step-loop-self-preserved t c =
-    let f = goal.at.step-loop-self-preserved t c in
-    let e = c.expect.ensures in (
-      search rules,
-      omega (arith, c.in_ok-branch.ensures.told.0, c.in_ok-edge.ensures.told.0, c.in_ok-expect.ensures.told.1),
-      record {
-        same = λ m hs d.
-            c.loop-self.invariant.2.same m hs d
-            ∙ enter t f.In_ok-edge m hs d
-            ∙ cross t f.In_ok-branch m hs d
-            ∙ closes c.branch-self.new.self m _ hs _ c.in_ok-expect.ensures.told.0
-            ∙ passed c.branch-self.new.self c.expect.new.self e.kept _ m _ hs step c.in_ok-expect.ensures.told.1;
-      },
+    let o = opened _ _ _ _ true c.if-branch.true c.in_ok-open.ensures in
+    let i = c.loop-self.invariant in
+    let b = c.in_ok-branch.ensures.told in
+    let e = c.in_ok-expect.ensures in (
+      omega (arith, i.0, shorter _ _ _ o.0, c.in_ok-edge.ensures.0, b.0, shorter _ _ _ e),
+      omega (arith, i.1, b.1),
+      omega (arith, i.2, b.1),
+      λ m hs d. crossed t (goal.at.step-loop-self-preserved t c).In_ok-branch m hs d ∙ taken _ _ 93 e (state c.branch-self.new.self m c.in_ok-branch.field-0 (c.push-node.result ∷ hs) step),
     )
 
-pub step-returns-in_err-expect : goal.step-returns-in_err-expect
-step-returns-in_err-expect t c =
+pub step-returns-in_err-expect-clause-told : goal.step-returns-in_err-expect-clause-told
+step-returns-in_err-expect-clause-told t c =
     let r = c.from_residual-in_err-expect in
     let p = err_from_is_err_and r.result r.ensures.1 in
-    let f = goal.at.step-returns-in_err-expect t c in
-    let e = c.in_err-expect.ensures.told in
-    let b = c.in_ok-branch.ensures.stops in
-    record {
-      kept = search rules;
-      told = rw (p.1, p.2) (λ m hs d.
-          start t f.After-push-number m hs
-          ∙ c.loop-self.invariant.2.same m hs d
-          ∙ enter t f.In_ok-edge m hs d
-          ∙ cross t f.In_ok-branch m hs d
-          ∙ closes_not c.branch-self.new.self m _ hs _ b.1 b.0 e.0
-          ∙ ap Err (sym e.1));
-      stops = IfOk-from_err _ _ r.ensures.0;
-    }
+    rw (p.1, p.2) (λ m hs d. crossed t (goal.at.step-returns-in_err-expect-clause-told t c).In_ok-branch m hs d ∙ closes_not c.branch-self.new.self c.expect.new.self _ c.in_ok-branch.ensures.stops c.in_err-expect.ensures m _ _ _)
 
-pub step-returns : goal.step-returns
-step-returns t c = record {
-  kept = search rules;
-  told = (omega (arith, c.in_ok-name.ensures.told.0), λ m hs d. start t (goal.at.step-returns t c).After-push-number m hs ∙ c.loop-self.invariant.2.same m hs d);
-  stops = c.loop-self-test.ensures;
-}
+pub step-returns-clause-told : goal.step-returns-clause-told
+step-returns-clause-told t c =
+    let o = opened _ _ _ _ false c.if-branch.false c.in_ok-open.ensures in
+    rw o.0.1 c.loop-self.invariant

@@ -1,21 +1,23 @@
-use Rattle.std.proofs.Common.{◌≡◌, [], ◌∷◌, codes, sym, refl, ap, subst, arith}
+use Rattle.std.proofs.Common.{◌≡◌, [], ◌∷◌, codes, Ok, Err, IsOk, Result, sym, refl, ◌∙◌, subst}
+use Rattle.markup.specs.declared.fault.Fault.{Fault}
 use Rattle.pattern.specs.declared.node.Mark.TheVariants.{Any}
-use Rattle.pattern.specs.Shape.{root_a, shape, LawfulTwig}
-use Rattle.pattern.specs.Reading.{run_in, granted, read_pattern}
-use Rattle.pattern.proofs.Trees.{granted_lawful}
+use Rattle.pattern.specs.declared.twig.Twig.{Twig}
+use Rattle.pattern.specs.Shape.{root_a}
+use Rattle.pattern.specs.Reading.{limits, start, run_in, granted}
+use Rattle.pattern.specs.Twig.{Parsed}
+use Rattle.pattern.proofs.Exact.{no_grant, same_twig}
 use Rattle.pattern.proofs.twig.Twig.new.Goals as goal
 
-pub returns : goal.returns
+is_read : run_in limits start 0 (codes "//a") ≡ granted Any (root_a ∷ [])
 unfolding run_in
-returns c = record { read = sym (ap (λ v. granted Any (v ∷ [])) c.root_a.ensures); twig = ap (λ v. shape Any (v ∷ [])) c.root_a.ensures }
+is_read = refl
 
-pub invariant_of-result : goal.invariant_of-result
-unfolding run_in
-invariant_of-result c =
-    let e : read_pattern (codes "//a") ≡ granted Any (root_a ∷ []) = refl in
-    record {
-      some = omega arith;
-      few = omega arith;
-      table = refl;
-      lawful = ∣ subst (λ v. LawfulTwig (v ∷ [])) (sym c.root_a.ensures) (granted_lawful (codes "//a") (shape Any (root_a ∷ [])) e) ∣₁;
-    }
+is_ok : (r : Result Twig Fault) → Parsed (codes "//a") r → IsOk r
+is_ok (Ok w) h = refl
+is_ok (Err f) h = no_grant (sym h ∙ is_read)
+
+pub unwrap-requires : goal.unwrap-requires
+unwrap-requires c = is_ok c.parse.result c.parse.ensures
+
+pub returns-clause-twig : goal.returns-clause-twig
+returns-clause-twig c = same_twig _ _ (sym (subst (Parsed (codes "//a")) c.unwrap.ensures c.parse.ensures) ∙ is_read)

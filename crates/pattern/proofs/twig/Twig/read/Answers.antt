@@ -1,16 +1,13 @@
-use Rattle.std.proofs.Common.{refl, ◌∙◌}
+use Rattle.std.proofs.Common.{◌∙◌}
 use Rattle.std.proofs.lemmas.Result.{err_from_is_err_and}
 use Rattle.pattern.proofs.Exact.{reading_short}
 use Rattle.pattern.proofs.Trees.{grammar, not_derived}
 use Rattle.pattern.proofs.twig.Twig.read.Goals as goal
 
-pub returns-in_err-self : goal.returns-in_err-self
-returns-in_err-self c =
+pub returns-in_err-self-clause-grammar : goal.returns-in_err-self-clause-grammar
+returns-in_err-self-clause-grammar c =
     let p = err_from_is_err_and c.from_residual.result c.from_residual.ensures.1 in
-    let e = reading_short _ c.if-text-gt-MOST_BYTES.false ∙ c.in_err-self.ensures in
-    rw (p.1, p.2) (record { turned = (e, refl); grammar = not_derived _ _ e })
+    rw p.1 (not_derived _ _ (reading_short _ c.if-text-gt-MOST_BYTES.false ∙ c.in_err-self.ensures))
 
-pub returns : goal.returns
-returns c =
-    let e = reading_short _ c.if-text-gt-MOST_BYTES.false ∙ c.in_ok-self.ensures in
-    record { turned = e; grammar = (grammar _ _).0 e }
+pub returns-clause-grammar : goal.returns-clause-grammar
+returns-clause-grammar c = (grammar _ _).0 (reading_short _ c.if-text-gt-MOST_BYTES.false ∙ c.in_ok-self.ensures)

@@ -1,33 +1,31 @@
-use Rattle.std.proofs.Common.{◌≡◌, ◌+◌, ◌-◌, ◌<◌, ◌≤◌, ◌++◌, length, get_or, take, sym, ap, ◌∙◌, arith}
-use Rattle.pattern.specs.Shape.{Vertex}
-use Rattle.pattern.specs.Table.{vertices, vertex_of}
-use Rattle.pattern.proofs.Tables.{length-vertices, get_or-vertices}
-use Rattle.pattern.proofs.Spell.{rest_start, rest_more, rest_end, name_part, name_short}
+use Rattle.std.proofs.Common.{◌≡◌, ◌<◌, ◌++◌, length, get_or, ap, ◌∙◌, arith}
+use Rattle.pattern.proofs.Spell.{later_next, root_written, node_written, after_root}
 use Rattle.pattern.proofs.twig.Twig.spelled.Goals as goal
+use Rattle.pattern.proofs.twig.Twig.spelled.Goals.{in-None, in-Some}
 
-pub loop-i-init : goal.loop-i-init
-loop-i-init c =
-    let w = c.args.self.now in
-    let r = c.index-self-0.result in
-    let a = get_or w.nodes 0 r in
-    let size = length-vertices w.nodes w.len (omega (arith, w.few, w.table)) in
-    let some : 0 < length (vertices w.nodes w.len) = omega (arith, size, w.some) in
-    let name : take (a.name.len - 0) a.name.bytes ≡ (get_or (vertices w.nodes w.len) 0 (vertex_of r)).name =
-    name_part a ∙ ap (λ (v : Vertex). v.name) (sym (get_or-vertices w.nodes w.len 0 r (vertex_of r) w.some (omega (arith, w.few, w.table)))) in (
-      rest_start w.mark (take c.new-out.result.len c.new-out.result.bytes) (take c.put.new.self.len c.put.new.self.bytes) _ (take (a.name.len - 0) a.name.bytes) (vertices w.nodes w.len) (vertex_of r) some (ap (λ n. take n c.new-out.result.bytes) c.new-out.ensures) (c.put.ensures.text ∙ ap (λ x. take c.new-out.result.len c.new-out.result.bytes ++ x) c.lead_text.ensures.text) c.put-2.ensures.text name,
-      omega (arith, c.new-out.ensures, c.put.ensures.len, c.put-2.ensures.len, c.lead_text.ensures.short, name_short a),
-    )
-
-pub loop-i-preserved : goal.loop-i-preserved
-loop-i-preserved c =
-    let w = c.args.self.now in
-    let size = length-vertices w.nodes w.len (omega (arith, w.few, w.table)) in
-    let more : c.loop-i.i + 1 < length (vertices w.nodes w.len) = omega (arith, size, c.loop-i-test.true) in
-    (rest_more (take c.loop-i.out.len c.loop-i.out.bytes) _ _ c.loop-i.i _ _ more c.loop-i.invariant.0 c.piece.ensures.text, omega (arith, c.piece.ensures.short, c.loop-i.invariant.1))
-
-pub returns : goal.returns
-returns c =
-    let w = c.args.self.now in
-    let size = length-vertices w.nodes w.len (omega (arith, w.few, w.table)) in
-    let most : length (vertices w.nodes w.len) ≤ c.loop-i.i + 1 = omega (arith, size, c.loop-i-test.false) in
-    rest_end _ _ c.loop-i.i _ most c.loop-i.invariant.0
+pub loop-number-preserved : goal.loop-number-preserved
+loop-number-preserved c =
+    let s = c.as_slice-node-items.ensures in
+    let ns = c.args.self.now.nodes.items in
+    let k = c.loop-number.number in
+    let n = c.node-item.result in
+    let there : k < length ns = omega (arith, c.loop-number-test.true, ap length s.value) in
+    let is : n ≡ get_or ns k n = c.node-item.is ∙ ap (λ x. get_or x k n) s.value in
+    let i = c.loop-number.invariant in
+    let last : c.push_str-in-loop-number.new.self.bytes ≡ c.match-node.out.bytes ++ n.name.bytes = c.push_str-in-loop-number.ensures.bytes ∙ ap (λ x. c.match-node.out.bytes ++ x) c.deref.ensures.0 in
+    let t = c.loop-number.out.bytes in
+    let l = c.push_str-in-loop-number.ensures.len in
+    elim c.match-node.branch [
+      | in-None w ↦ let o : c.match-node.out.bytes ≡ w.push_str.new.self.bytes = λ j. (w.out-is j).bytes in (
+        root_written _ ns s.hung n k there is t i.0 c.match-node.out.bytes _ w.in-None.is (o ∙ w.push_str.ensures.bytes ∙ ap (λ x. t ++ x) w.lead_text.ensures.text) last,
+        omega (arith, i.1, w.push_str.ensures.len, ap length o, w.lead_text.ensures.short, l, c.deref.ensures.1),
+      )
+      | in-Some w ↦ let u = w.push_str-in-Some.new.self.bytes in let o : c.match-node.out.bytes ≡ w.push_str-in-Some-2.new.self.bytes = λ j. (w.out-is j).bytes in (
+        node_written _ ns s.hung n k there is t i.0 w.in-Some.hook w.in-Some.is _ u c.match-node.out.bytes _
+            (w.is_some-later.ensures ∙ later_next _ _ _ _ w.next_child.ensures)
+            (w.push_str-in-Some.ensures.bytes ∙ ap (λ x. t ++ x) w.close_text.ensures.text)
+            (o ∙ w.push_str-in-Some-2.ensures.bytes ∙ ap (λ x. u ++ x) w.open_text.ensures.text)
+            last,
+        omega (arith, i.1, after_root _ ns s.hung n k there is t i.0 w.in-Some.hook w.in-Some.is, w.push_str-in-Some.ensures.len, w.push_str-in-Some-2.ensures.len, ap length o, w.close_text.ensures.short, w.open_text.ensures.short, l, c.deref.ensures.1),
+      )
+    ]

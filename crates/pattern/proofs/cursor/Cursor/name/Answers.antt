@@ -1,0 +1,33 @@
+use Rattle.std.proofs.Common.{◌≡◌, true, Err, sym, ap, ◌∙◌, subst, arith, rules}
+use Rattle.std.specs.Str.{IsUtf8}
+use Rattle.pattern.specs.Moves.{begins_name}
+use Rattle.pattern.proofs.Steps.{name_not, name_full, name_too_long, name_read, name_some, name_utf8, valid}
+use Rattle.pattern.proofs.cursor.Cursor.name.Goals as goal
+
+pub returns-then-not-begins_name : goal.returns-then-not-begins_name
+returns-then-not-begins_name c s e room =
+    name_not s e _ _ (sym c.begins_name.ensures ∙ c.if-not-begins_name.true) ∙ ap Err (sym c.refuse.ensures)
+
+pub returns-then-is_full : goal.returns-then-is_full
+returns-then-is_full c s e room =
+    name_full s e _ _ (sym c.begins_name.ensures ∙ c.if-not-begins_name.false) (room ∙ c.if-is_full.true) ∙ ap Err (sym c.refuse-then-is_full.ensures)
+
+pub returns-then-len-gt-MOST_BYTES : goal.returns-then-len-gt-MOST_BYTES
+returns-then-len-gt-MOST_BYTES c =
+    let b : begins_name c.self.inside.left.now ≡ true = (λ i. begins_name (c.self.view_is i).rest) ∙ sym c.begins_name.ensures ∙ c.if-not-begins_name.false in
+    rw (← c.self.view_is) (λ s e room. name_too_long s e _ _ _ b (room ∙ c.if-is_full.false) (sym c.run-len.ensures.value) c.if-len-gt-MOST_BYTES.true ∙ ap Err (sym c.at.ensures))
+
+pub unwrap-requires : goal.unwrap-requires
+unwrap-requires c =
+    let text = c.split_at.ensures.front in
+    valid _ _ c.from_utf8.result (subst IsUtf8 (sym text) (name_utf8 _ _ c.run-len.ensures.value)) c.from_utf8.ensures.cases
+
+pub returns : goal.returns
+returns c =
+    let b : begins_name c.self.inside.left.now ≡ true = (λ i. begins_name (c.self.view_is i).rest) ∙ sym c.begins_name.ensures ∙ c.if-not-begins_name.false in
+    let some = name_some c.self.inside.left.now b in
+    rw (← c.self.view_is) (
+      omega (arith, some, c.run-len.ensures.value, c.run-len.ensures.within, c.split_at.ensures.back_len),
+      c.if-is_full.false,
+      λ s e room. name_read s e _ _ _ b (room ∙ c.if-is_full.false) (sym c.run-len.ensures.value) (omega (arith, c.if-len-gt-MOST_BYTES.false)) ∙ search rules,
+    )
