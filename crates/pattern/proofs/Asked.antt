@@ -1,18 +1,13 @@
 -- The nodes of a twig, for the calls that ask about them.
-use Rattle.std.proofs.Common.{◌≡◌, ℕ, zero, suc, ◌<◌, ◌≤◌, List, [], ◌∷◌, length, get_or, Some, None, is_some, Option, MatchOption, sym, ap, ◌∙◌, true≢false, arith}
+use Rattle.std.proofs.Common.{◌≡◌, ℕ, ◌<◌, ◌≤◌, List, length, get_or, Some, None, Option, MatchOption, sym, ap, ◌∙◌, arith}
 use Rattle.pattern.specs.declared.node.Hook.{Hook}
 use Rattle.pattern.specs.declared.node.Node.{Node}
 use Rattle.pattern.specs.Shape.{Vertex, root_a, IsChild}
 use Rattle.pattern.specs.Nodes.{Hung}
 use Rattle.pattern.specs.Twig.{NextChild}
 use Rattle.pattern.specs.Table.{parent_of, vertex_of, vertices}
+use Rattle.pattern.proofs.Hooks.{not_root}
 use Rattle.pattern.proofs.Tables.{length-vertices, get_or-vertices}
-
--- only the root hangs on nothing
-pub not_root : (ns : List Node) (i : ℕ) (n : Node) (h : Hook) → Hung ns → i < length ns → n ≡ get_or ns i n → n.hook ≡ Some h → 0 < i
-not_root [] i n h hung there e hook = absurd (omega (arith, there))
-not_root (m ∷ ms) zero n h hung there e hook = absurd (true≢false (sym (ap is_some hook) ∙ ap (λ (v : Node). is_some v.hook) e ∙ ap is_some hung.0))
-not_root (m ∷ ms) (suc i) n h hung there e hook = omega arith
 
 -- a node hangs on its hook's parent
 pub child : (ns : List Node) (i : ℕ) (n : Node) (h : Hook) → Hung ns → i < length ns → n ≡ get_or ns i n → n.hook ≡ Some h → IsChild (vertices ns) h.parent i

@@ -1,4 +1,5 @@
 pub mod Steps
+pub mod Hooks
 pub mod Tables
 pub mod Progress
 pub mod Preorder

@@ -2,29 +2,29 @@
 use Rattle.std.proofs.Common.{◌≡◌, ℕ, ◌+◌, Bool, true, false, cond, eqb, leb, List, [], ◌∷◌, ◌++◌, length, Ok, Err, Option, sym, refl, ap, ◌∙◌, subst, arith}
 use Rattle.std.proofs.lemmas.List.{map_push, length-map}
 use Rattle.std.proofs.lemmas.Bool.{ne_eqb, cond-true, cond-false, le-leb, lt-leb}
-use Rattle.arrayvec.specs.ArrayString.{ArrayString}
 use Rattle.markup.specs.declared.fault.Fault.{Fault}
 use Rattle.markup.specs.declared.fault.Refusal.TheVariants.{Misfit}
 use Rattle.pattern.specs.declared.node.Edge.{Edge}
 use Rattle.pattern.specs.declared.node.Edge.TheVariants.{Child}
 use Rattle.pattern.specs.declared.node.Hook.{Hook}
 use Rattle.pattern.specs.declared.node.Mark.{Mark}
+use Rattle.pattern.specs.declared.name.Name.{Name}
 use Rattle.pattern.specs.declared.node.Node.{Node}
+use Rattle.pattern.specs.declared.nodes.Nodes.{Nodes}
 use Rattle.pattern.specs.declared.reader.Reader.{Reader}
 use Rattle.pattern.specs.Shape.{Vertex}
 use Rattle.pattern.specs.Spot.{Spot}
-use Rattle.pattern.specs.Nodes.{NodeList}
-use Rattle.pattern.specs.Table.{parent_of, edge_of, vertex_of, vertices}
+use Rattle.pattern.specs.Table.{parent_of, edge_of, items, vertex_of, vertices}
 use Rattle.pattern.specs.Reading.{State, Phase, edge, slash, bracket, step, stop, refused, granted, close, to, start, limits, feed, run_in}
 use Rattle.pattern.specs.Moves.{Next, reads_on, outcome, Accepted, Passed, Opened, Led, Edged, Named, Ended}
 use Rattle.pattern.proofs.Steps.{taken}
 
 -- the state of a reader
 abbrev pub state : Reader → Mark → ℕ → List ℕ → Phase → State
-state x m k hs p = record { mark = m; nodes = vertices x.nodes.items; holder = k; brackets = hs; phase = p }
+state x m k hs p = record { mark = m; nodes = vertices (items x.nodes); holder = k; brackets = hs; phase = p }
 
 -- from the start to the first step
-pub from_start : (t : List ℕ) (x : Reader) (y : Spot) (m : Mark) → x.cursor.rest ≡ t → x.cursor.place ≡ 0 → x.nodes.items ≡ [] → Led x.cursor y (Ok m)
+pub from_start : (t : List ℕ) (x : Reader) (y : Spot) (m : Mark) → x.cursor.rest ≡ t → x.cursor.place ≡ 0 → (items x.nodes) ≡ [] → Led x.cursor y (Ok m)
     → run_in limits start 0 t ≡ outcome (record { cursor = y; nodes = x.nodes }) m 0 [] (edge Child)
 from_start t x y m text place none led =
     (λ i. run_in limits start (sym place i) (sym text i))
@@ -35,20 +35,20 @@ pub from_start_not : (t : List ℕ) (x : Spot) (y : Spot) (f : Fault) → x.rest
 from_start_not t x y f text place led = (λ i. run_in limits start (sym place i) (sym text i)) ∙ led
 
 -- a name and its node
-pub begun : (x : Reader) (y : Spot) (nodes : NodeList) (a : ArrayString) (h : Option Hook) (full : Bool) (number : ℕ)
-    → full ≡ leb 16 (length x.nodes.items) → Named full x.cursor y (Ok a) → nodes.items ≡ x.nodes.items ++ record { name = a; hook = h } ∷ [] → number ≡ length x.nodes.items
+pub begun : (x : Reader) (y : Spot) (nodes : Nodes) (a : Name) (h : Option Hook) (full : Bool) (number : ℕ)
+    → full ≡ leb 16 (length (items x.nodes)) → Named full x.cursor y (Ok a) → (items nodes) ≡ (items x.nodes) ++ record { name = a; hook = h } ∷ [] → number ≡ length (items x.nodes)
     → (m : Mark) (hs : List ℕ) → outcome x m (parent_of h) hs (edge (edge_of h)) ≡ outcome (record { cursor = y; nodes = nodes }) m number hs step
 begun x y nodes a h full number room named pushed is m hs =
     let n : Node = record { name = a; hook = h } in
-    let size : length (vertices x.nodes.items) ≡ length x.nodes.items = length-map x.nodes.items vertex_of in
-    let vs : vertices x.nodes.items ++ vertex_of n ∷ [] ≡ vertices nodes.items = sym (map_push vertex_of x.nodes.items n) ∙ sym (ap vertices pushed) in
+    let size : length (vertices (items x.nodes)) ≡ length (items x.nodes) = length-map (items x.nodes) vertex_of in
+    let vs : vertices (items x.nodes) ++ vertex_of n ∷ [] ≡ vertices (items nodes) = sym (map_push vertex_of (items x.nodes) n) ∙ sym (ap vertices pushed) in
     named.2 (state x m (parent_of h) hs (edge (edge_of h))) (edge_of h) (ap (leb 16) size ∙ sym room)
     ∙ (λ i. reads_on y (record { mark = m; nodes = vs i; holder = (size ∙ sym is) i; brackets = hs; phase = step }))
 
-pub begun_not : (x : Reader) (y : Spot) (h : Option Hook) (full : Bool) (f : Fault) → full ≡ leb 16 (length x.nodes.items) → Named full x.cursor y (Err f)
+pub begun_not : (x : Reader) (y : Spot) (h : Option Hook) (full : Bool) (f : Fault) → full ≡ leb 16 (length (items x.nodes)) → Named full x.cursor y (Err f)
     → (m : Mark) (hs : List ℕ) → outcome x m (parent_of h) hs (edge (edge_of h)) ≡ Err f
 begun_not x y h full f room named m hs =
-    named (state x m (parent_of h) hs (edge (edge_of h))) (edge_of h) (ap (leb 16) (length-map x.nodes.items vertex_of) ∙ sym room)
+    named (state x m (parent_of h) hs (edge (edge_of h))) (edge_of h) (ap (leb 16) (length-map (items x.nodes) vertex_of) ∙ sym room)
 
 -- an edge after a step
 pub onward : (x y z : Spot) (e : Edge) → Accepted 47 x y true → Edged slash y z (Ok e) → (s : State) → reads_on x (to s step) ≡ reads_on z (to s (edge e))
@@ -118,7 +118,7 @@ unended m vs h k (b ∷ bs) n47 n91 n =
     beyond (record { mark = m; nodes = vs; holder = h; brackets = []; phase = step }) k b bs n47 n91
     ∙ ap (λ v. feed k v (λ t. run_in limits t (k + 1) bs)) (same_cond (eqb b 93) (stop Misfit))
 
-pub ended : (x : Reader) (m : Mark) (k : ℕ) → x.cursor.rest ≡ [] → outcome x m k [] step ≡ granted m (vertices x.nodes.items)
+pub ended : (x : Reader) (m : Mark) (k : ℕ) → x.cursor.rest ≡ [] → outcome x m k [] step ≡ granted m (vertices (items x.nodes))
 unfolding run_in
 ended x m k e = ap (run_in limits (state x m k [] step) x.cursor.place) e
 

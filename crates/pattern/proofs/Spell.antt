@@ -1,18 +1,17 @@
 -- What the writer of the spelling leans on.
-use Rattle.std.proofs.Common.{◌≡◌, ℕ, zero, suc, ◌+◌, ◌-◌, ◌<◌, ◌≤◌, Bool, true, false, eqb, List, [], ◌∷◌, ◌++◌, length, get_or, drop, is_some, Some, None, Option, sym, refl, ap, ◌∙◌, true≢false, arith}
+use Rattle.std.proofs.Common.{◌≡◌, ℕ, zero, suc, ◌+◌, ◌-◌, ◌<◌, ◌≤◌, Bool, true, false, eqb, List, [], ◌∷◌, ◌++◌, length, get_or, drop, is_some, Some, None, Option, sym, refl, ap, ◌∙◌, arith}
 use Rattle.std.proofs.lemmas.List.{drop_more, drop_all, append_assoc, append-nil}
 use Rattle.std.proofs.lemmas.Bool.{eq-eqb, ne_eqb, or_left, or_right, or_from}
-use Rattle.std.proofs.ByRecursion.{All-get_or}
 use Rattle.pattern.specs.declared.node.Hook.{Hook}
 use Rattle.pattern.specs.declared.node.Mark.{Mark}
 use Rattle.pattern.specs.declared.node.Node.{Node}
 use Rattle.pattern.specs.Shape.{Vertex, node_at, shape}
 use Rattle.pattern.specs.Nodes.{Hung}
-use Rattle.pattern.specs.Table.{parent_of, edge_of, vertex_of, vertices}
+use Rattle.pattern.specs.Table.{name_of, parent_of, edge_of, vertex_of, vertices}
 use Rattle.pattern.specs.Twig.{NextChild}
 use Rattle.pattern.specs.Spelling.{later, piece, rest, spelling, close_text, open_text, lead_text}
 use Rattle.pattern.proofs.Tables.{length-vertices, get_or-vertices}
-use Rattle.pattern.proofs.Asked.{not_root}
+use Rattle.pattern.proofs.Hooks.{not_root, root_only}
 
 -- a later child of p
 later_some : (p : ℕ) (vs : List Vertex) (k c : ℕ) → k ≤ c → c < length vs → (node_at vs c).parent ≡ p → later p (drop k vs) ≡ true
@@ -52,13 +51,6 @@ pub written : (m : Mark) (k : ℕ) (vs : List Vertex) (t : List ℕ) → 0 < k �
 written m zero vs t some all e = absurd (omega (arith, some))
 written m (suc k) vs t some all e = sym (append-nil t) ∙ ap (λ x. t ++ rest k x) (sym (drop_all (suc k) vs all)) ∙ e
 
--- a node that is not the root hangs on some node
-root_only : (ns : List Node) (k : ℕ) (n : Node) → Hung ns → k < length ns → n ≡ get_or ns k n → n.hook ≡ None → k ≡ 0
-root_only ns zero n hung there is none = refl
-root_only [] (suc k) n hung there is none = absurd (omega (arith, there))
-root_only (m ∷ ms) (suc k) n hung there is none =
-    absurd (true≢false (sym (All-get_or _ ms k n (omega (arith, there)) hung.1) ∙ ap (λ (v : Node). is_some v.hook) (sym is) ∙ ap is_some none))
-
 -- node k is written after the text t
 module _ (m : Mark) (ns : List Node) (hung : Hung ns) (n : Node) (k : ℕ) (there : k < length ns) (is : n ≡ get_or ns k n) (t : List ℕ) (sofar : t ++ to_write m k (drop k (vertices ns)) ≡ spelling (shape m (vertices ns))) where
   one_more : (o t' : List ℕ) → o ≡ own m k (vertex_of n) (drop (k + 1) (vertices ns)) → t' ≡ t ++ o → t' ++ to_write m (k + 1) (drop (k + 1) (vertices ns)) ≡ spelling (shape m (vertices ns))
@@ -71,26 +63,26 @@ module _ (m : Mark) (ns : List Node) (hung : Hung ns) (n : Node) (k : ℕ) (ther
       ∙ ap (λ x. t ++ to_write m k x) (sym d)
       ∙ sofar
 
-  pub root_written : (t₁ t₂ : List ℕ) → n.hook ≡ None → t₁ ≡ t ++ lead_text m → t₂ ≡ t₁ ++ n.name.bytes → t₂ ++ to_write m (k + 1) (drop (k + 1) (vertices ns)) ≡ spelling (shape m (vertices ns))
+  pub root_written : (t₁ t₂ : List ℕ) → n.hook ≡ None → t₁ ≡ t ++ lead_text m → t₂ ≡ t₁ ++ name_of n.name → t₂ ++ to_write m (k + 1) (drop (k + 1) (vertices ns)) ≡ spelling (shape m (vertices ns))
   unfolding own
   root_written t₁ t₂ none e₁ e₂ =
       let z : 0 ≡ k = sym (root_only ns k n hung there is none) in
-      one_more _ t₂ (ap (λ j. own m j (vertex_of n) (drop (k + 1) (vertices ns))) z) (e₂ ∙ ap (λ x. x ++ n.name.bytes) e₁ ∙ append_assoc t _ _)
+      one_more _ t₂ (ap (λ j. own m j (vertex_of n) (drop (k + 1) (vertices ns))) z) (e₂ ∙ ap (λ x. x ++ name_of n.name) e₁ ∙ append_assoc t _ _)
 
   module _ (h : Hook) (some : n.hook ≡ Some h) where
     pub after_root : 0 < k
     after_root = not_root ns k n h hung there is some
 
     pub node_written : (b : Bool) (t₁ t₂ t₃ : List ℕ) → b ≡ later h.parent (drop (k + 1) (vertices ns))
-        → t₁ ≡ t ++ close_text h.parent (k - 1) → t₂ ≡ t₁ ++ open_text b h.edge → t₃ ≡ t₂ ++ n.name.bytes
+        → t₁ ≡ t ++ close_text h.parent (k - 1) → t₂ ≡ t₁ ++ open_text b h.edge → t₃ ≡ t₂ ++ name_of n.name
         → t₃ ++ to_write m (k + 1) (drop (k + 1) (vertices ns)) ≡ spelling (shape m (vertices ns))
     unfolding own
     node_written b t₁ t₂ t₃ l e₁ e₂ e₃ =
         let z : suc (k - 1) ≡ k = omega (arith, after_root) in
-        one_more (close_text h.parent (k - 1) ++ open_text b h.edge ++ n.name.bytes) t₃
-        ((λ i. close_text (parent_of (sym some i)) (k - 1) ++ open_text (at_later i) (edge_of (sym some i)) ++ n.name.bytes)
+        one_more (close_text h.parent (k - 1) ++ open_text b h.edge ++ name_of n.name) t₃
+        ((λ i. close_text (parent_of (sym some i)) (k - 1) ++ open_text (at_later i) (edge_of (sym some i)) ++ name_of n.name)
         ∙ ap (λ j. own m j (vertex_of n) (drop (k + 1) (vertices ns))) z)
-        (e₃ ∙ ap (λ x. x ++ n.name.bytes) (e₂ ∙ ap (λ x. x ++ open_text b h.edge) e₁ ∙ append_assoc t _ _) ∙ append_assoc t _ _)
+        (e₃ ∙ ap (λ x. x ++ name_of n.name) (e₂ ∙ ap (λ x. x ++ open_text b h.edge) e₁ ∙ append_assoc t _ _) ∙ append_assoc t _ _)
       where
         at_later : b ≡ later (parent_of n.hook) (drop (k + 1) (vertices ns))
         at_later = l ∙ ap (λ o. later (parent_of o) (drop (k + 1) (vertices ns))) (sym some)

@@ -1,15 +1,12 @@
 -- How the reading of a text goes on by one byte, and by a name.
-use Rattle.std.proofs.Common.{◌≡◌, ℕ, zero, suc, ◌+◌, ◌-◌, ◌<◌, ◌≤◌, Bool, true, false, cond, eqb, leb, List, [], ◌∷◌, ◌++◌, length, take, drop, Ok, Err, Result, IsOk, MatchResult, ◌&&◌, ◌||◌, sym, refl, ap, ◌∙◌, subst, ⊎_elim, true≢false, arith}
-use Rattle.std.specs.List.{prefix_len, AllByRecursion as Every}
-use Rattle.std.specs.Str.{IsUtf8, IsAscii}
-use Rattle.std.proofs.lemmas.Str.{IsUtf8-from_ascii}
+use Rattle.std.proofs.Common.{◌≡◌, ℕ, zero, suc, ◌+◌, ◌-◌, ◌<◌, ◌≤◌, Bool, true, false, cond, eqb, leb, List, [], ◌∷◌, ◌++◌, length, take, drop, Ok, Err, sym, refl, ap, ◌∙◌, subst, ⊎_elim, true≢false, arith}
+use Rattle.std.specs.List.{prefix_len}
 use Rattle.std.proofs.lemmas.List.{append_assoc, append-nil, length_push}
-use Rattle.std.proofs.lemmas.Bool.{cases_lt, ne_eqb, leb-true, eqb-true, or_cases, and_parts, cond-true, cond-false, le-leb, lt-leb}
+use Rattle.std.proofs.lemmas.Bool.{cases_lt, ne_eqb, cond-true, cond-false, le-leb, lt-leb}
 use Rattle.markup.specs.declared.fault.Fault.{Fault}
 use Rattle.markup.specs.declared.fault.Refusal.TheVariants.{Misfit, TooManySteps, PatternNameTooLong}
 use Rattle.markup.specs.Name.{name_first, name_byte}
 use Rattle.markup.proofs.Names.{first_is_byte}
-use Rattle.markup.proofs.Leading.{all_leading}
 use Rattle.pattern.specs.declared.node.Edge.{Edge}
 use Rattle.pattern.specs.declared.node.Edge.TheVariants.{Child, Descendant}
 use Rattle.pattern.specs.declared.node.Mark.TheVariants.{Top, Any}
@@ -187,35 +184,3 @@ module _ (s : State) (e : Edge) where
 pub name_some : (bs : List ℕ) → begins_name bs ≡ true → 0 < prefix_len name_byte bs
 name_some [] b = absurd (true≢false (sym b))
 name_some (c ∷ cs) b = omega (arith, ap (λ v. cond v (1 + prefix_len name_byte cs) 0) (first_is_byte c b))
-
--- and is ASCII
-within_range : (lo hi b : ℕ) → hi < 128 → (leb lo b && leb b hi) ≡ true → b < 128
-within_range lo hi b h e = omega (arith, h, leb-true b hi (and_parts (leb lo b) _ e).1)
-
-is_byte : (c b : ℕ) → c < 128 → eqb b c ≡ true → b < 128
-is_byte c b h e = omega (arith, h, eqb-true b c e)
-
-either : (x y : Bool) (b : ℕ) → (x ≡ true → b < 128) → (y ≡ true → b < 128) → (x || y) ≡ true → b < 128
-either x y b p q e = ⊎_elim p q (or_cases x y e)
-
-ascii_byte : (b : ℕ) → name_byte b ≡ true → b < 128
-ascii_byte b =
-    either _ _ b
-    (either _ _ b
-    (either _ _ b
-    (either _ _ b (either _ _ b (within_range 65 90 b (omega arith)) (within_range 97 122 b (omega arith))) (is_byte 95 b (omega arith)))
-    (within_range 48 57 b (omega arith)))
-    (is_byte 45 b (omega arith)))
-    (is_byte 46 b (omega arith))
-
-ascii : (bs : List ℕ) → Every (λ b. name_byte b ≡ true) bs → IsAscii bs
-ascii [] h i = omega arith
-ascii (b ∷ bs) h zero = ascii_byte b h.0
-ascii (b ∷ bs) h (suc i) = ascii bs h.1 i
-
-pub name_utf8 : (bs : List ℕ) (n : ℕ) → n ≡ prefix_len name_byte bs → IsUtf8 (take n bs)
-name_utf8 bs n r = subst (λ k. IsUtf8 (take k bs)) (sym r) (IsUtf8-from_ascii _ (ascii _ (all_leading name_byte bs)))
-
-pub valid : {T E Q : Type 0} (P : T → Type 0) (W : E → Type 0) (r : Result T E) → Q → MatchResult r P (λ e. (Q → ⊥) × W e) → IsOk r
-valid P W (Ok x) q h = refl
-valid P W (Err e) q h = absurd (h.0 q)

@@ -7,13 +7,13 @@ use Rattle.markup.specs.Faults.{fault}
 use Rattle.pattern.specs.declared.node.Edge.{Edge}
 use Rattle.pattern.specs.declared.twig.Twig.{Twig}
 use Rattle.pattern.specs.Shape.{Vertex, Shape, shape, node_at, IsChild}
-use Rattle.pattern.specs.Table.{vertices}
+use Rattle.pattern.specs.Table.{items, vertices}
 use Rattle.pattern.specs.Reading.{limits, run_in, start, read_pattern}
 use Rattle.pattern.specs.Grammar.{Derives}
 
 -- the twig that a `Twig` stands for
 abbrev pub shape_of : Twig → Shape
-shape_of w = shape w.mark (vertices w.nodes.items)
+shape_of w = shape w.mark (vertices (items w.nodes))
 
 -- the name of node i: none past the last node
 abbrev pub NameOf : List Vertex → ℕ → Option (Bor (List ℕ)) → Type 0

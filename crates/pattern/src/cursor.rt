@@ -4,11 +4,11 @@ ghost use Rattle.markup.specs.Faults.{fault};
 ghost use Rattle.pattern.specs.Reading.{bracket, slash};
 ghost use Rattle.pattern.specs.Moves.{begins_name, Accepted, Passed, Opened, Led, Edged, Named, Ended};
 
-use super::node::{Edge, Mark, Name};
+use super::name::Name;
+use super::node::{Edge, Mark};
 use markup::scan::NameBytes;
 use markup::{Fault, Refusal, name, scan};
 use std::marker::Model;
-use std::str;
 
 // The most brackets that are open at once.
 const MOST_BRACKETS: usize = 8;
@@ -142,7 +142,7 @@ impl<'a> Cursor<'a> {
         let (name, rest) = self.left.split_at(len);
         self.left = rest;
         self.at += len;
-        Ok(Name::from(str::from_utf8(name).unwrap()).unwrap())
+        Ok(Name::new(name))
     }
 
     // The end of the text, where no edge and no bracket follows.

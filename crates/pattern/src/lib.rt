@@ -4,6 +4,7 @@
 
 mod cursor;
 mod laws;
+mod name;
 mod node;
 mod nodes;
 mod questions;

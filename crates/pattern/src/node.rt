@@ -1,6 +1,5 @@
 // The parts of a twig.
-use arrayvec::ArrayString;
-use markup::name;
+use super::name::Name;
 
 // How a node hangs on its parent: as a child, or anywhere below it.
 #[derive(Clone, Copy, Debug, PartialEq, Eq)]
@@ -22,9 +21,6 @@ pub(crate) struct Hook {
     pub(crate) parent: usize,
     pub(crate) edge: Edge,
 }
-
-// A name. Its bytes are ASCII.
-pub(crate) type Name = ArrayString<{ name::MOST_BYTES }>;
 
 // A node. The root hangs on nothing.
 #[derive(Clone, Copy)]

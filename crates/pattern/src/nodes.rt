@@ -1,46 +1,35 @@
 // The nodes of a twig.
-ghost use Rattle.std.specs.Prelude.{◌≡◌, ◌<◌, ◌≤◌, [], ◌∷◌, ◌++◌, length, nat_le};
-ghost use Rattle.pattern.specs.Nodes.{Hung, Hangs};
+ghost use Rattle.std.specs.Prelude.{◌≡◌, ◌≤◌, length, take};
+ghost use Rattle.pattern.specs.Nodes.{Hung, Hung-prop};
 
-use super::node::{Name, Node};
-use std::marker::Model;
+use super::name::Name;
+use super::node::Node;
 
 // The most nodes that a twig has.
 const MOST_NODES: usize = 16;
 
-// Up to 16 nodes, in the order of their names in the text. An array and a length, since a `Twig` is `Copy` and an `ArrayVec` is not.
+// The first `len` nodes of the table, in the order of their names in the text.
+// Not an `ArrayVec`, which is not `Copy`, as a twig is.
 #[derive(Clone, Copy)]
 pub(crate) struct Nodes {
     table: [Node; MOST_NODES],
     len: usize,
-}
-
-impl Model for Nodes {
-    ghost use Rattle.std.specs.Prelude.{◌≡◌, ◌≤◌, ◌++◌, length, take, drop};
-    ghost use Rattle.std.proofs.Common.{arith, take-append-drop, length-take-le};
-    ghost use Rattle.pattern.specs.Nodes.{NodeList, Hung};
-
-    ghost Value = { NodeList };
-
-    ghost view = { λ a. record { items = take a.len a.table; spare = drop a.len a.table } };
-
-    ghost invariant = { λ a. (a.len ≤ 16) × (length a.table ≡ 16) × Hung (take a.len a.table) };
-
-    ghost inverse = { λ v. record { table = v.items ++ v.spare; len = length v.items } };
-
-    ghost inverse_ok = { λ a h i. record {
-      table = take-append-drop a.len a.table i;
-      len = length-take-le a.len a.table (omega (arith, h.0, h.1)) i;
-    } };
+    ghost few: { len ≤ 16 },
+    ghost room: { length table ≡ 16 },
+    ghost hung: { Hung (take len table) } by { Hung-prop _ },
 }
 
 impl Nodes {
+    ghost use Rattle.std.specs.Prelude.{◌<◌, [], ◌∷◌, ◌++◌, nat_le};
+    ghost use Rattle.pattern.specs.Nodes.{Hangs};
+    ghost use Rattle.pattern.specs.Table.{items};
+
     // No node.
     pub(crate) fn new() -> Nodes
-        ensures { result.items ≡ [] }
+        ensures { items result ≡ [] }
     {
         let blank = Node {
-            name: Name::new(),
+            name: Name::new(b""),
             hook: None,
         };
         Nodes {
@@ -51,18 +40,18 @@ impl Nodes {
 
     // Whether there is no room for a further node.
     pub(crate) fn is_full(&self) -> bool
-        ensures { result ≡ nat_le 16 (length self.now.items) }
+        ensures { result ≡ nat_le 16 (length (items self.now)) }
     {
         self.len >= MOST_NODES
     }
 
     // One node more; its number.
-    #[tactic(auto, using(crate::proofs::Tables::hung_more))]
+    #[tactic(auto, using(crate::proofs::Hooks::hung_more))]
     pub(crate) fn push(&mut self, node: Node) -> usize
-        requires room { length self.old.items < 16 }
-        requires hung { Hangs node.hook self.old.items }
-        ensures items { self.new.items ≡ self.old.items ++ node ∷ [] }
-        ensures number { result ≡ length self.old.items }
+        requires room { length (items self.old) < 16 }
+        requires hung { Hangs node.hook (items self.old) }
+        ensures items { items self.new ≡ items self.old ++ node ∷ [] }
+        ensures number { result ≡ length (items self.old) }
     {
         let number = self.len;
         self.table[number] = node;
@@ -72,11 +61,10 @@ impl Nodes {
 
     // The nodes by their numbers.
     pub(crate) fn as_slice(&self) -> &[Node]
-        ensures value { result.now ≡ self.now.items }
+        ensures value { result.now ≡ items self.now }
         ensures few { length result.now ≤ 16 }
-        ensures hung { Hung self.now.items }
+        ensures hung { Hung (items self.now) }
     {
-        let table = &self.table[..];
-        &table[..self.len]
+        &self.table[..self.len]
     }
 }

@@ -1,6 +1,7 @@
 // Questions about a node of a twig. Each takes any number.
 ghost use Rattle.std.specs.Slice.{IsItemAt};
 ghost use Rattle.pattern.specs.Nodes.{Hung};
+ghost use Rattle.pattern.specs.Table.{items};
 ghost use Rattle.pattern.specs.Twig.{shape_of, NameOf, ParentOf, EdgeOf, NextChild};
 
 use super::node::{Edge, Node};
@@ -9,8 +10,8 @@ use super::twig::Twig;
 impl Twig {
     // Node i; none past the last node.
     fn node(&self, i: usize) -> Option<&Node>
-        ensures item { IsItemAt self.now.nodes.items i result }
-        ensures hung { Hung self.now.nodes.items }
+        ensures item { IsItemAt (items self.now.nodes) i result }
+        ensures hung { Hung (items self.now.nodes) }
     {
         self.nodes.as_slice().get(i)
     }

@@ -2,6 +2,7 @@
 // the bytes left are fewer each time.
 ghost use Rattle.std.specs.Prelude.{◌≡◌, [], OnOk};
 ghost use Rattle.pattern.specs.Nodes.{Hangs};
+ghost use Rattle.pattern.specs.Table.{items};
 ghost use Rattle.pattern.specs.Moves.{Next, Stepped};
 
 use super::cursor::Cursor;
@@ -21,7 +22,7 @@ impl<'a> Reader<'a> {
     pub(crate) fn new(text: &'a [u8]) -> Reader<'a>
         ensures rest { result.cursor.rest ≡ text.now }
         ensures place { result.cursor.place ≡ 0 }
-        ensures nodes { result.nodes.items ≡ [] }
+        ensures nodes { items result.nodes ≡ [] }
     {
         Reader {
             cursor: Cursor::new(text),
@@ -32,7 +33,7 @@ impl<'a> Reader<'a> {
     // A name and its branches; the new node's number.
     #[cycle(branch_step)]
     fn step(&mut self, hook: Option<Hook>, depth: usize) -> Result<usize, Fault>
-        requires { Hangs hook self.old.nodes.items }
+        requires { Hangs hook (items self.old.nodes) }
         ensures told { Stepped hook depth self.old self.new result }
         ensures stops { OnOk result (Next self.new.cursor 91 → ⊥) }
     {
@@ -49,7 +50,7 @@ impl<'a> Reader<'a> {
     // A step, then edges and steps, each on the one before; the last node's number.
     #[cycle(branch_step)]
     pub(crate) fn branch(&mut self, hook: Option<Hook>, depth: usize) -> Result<usize, Fault>
-        requires { Hangs hook self.old.nodes.items }
+        requires { Hangs hook (items self.old.nodes) }
         ensures told { Stepped hook depth self.old self.new result }
         ensures stops { OnOk result ((Next self.new.cursor 91 → ⊥) × (Next self.new.cursor 47 → ⊥)) }
     {

@@ -7,60 +7,62 @@ ghost use Rattle.pattern.specs.Twig.{shape_of, Written};
 
 use super::node::{Edge, Mark};
 use super::twig::Twig;
-use arrayvec::ArrayString;
+use arrayvec::ArrayVec;
 use markup::{Fault, Refusal};
 
 // The longest standard spelling: the root has 2 bytes and a name of 32, and each of 15 other nodes has 5 and a name of 32.
 const LONGEST: usize = 589;
 
 // `]`, unless the node is a child of the node before it.
-fn close_text(parent: usize, before: usize) -> &'static str
+fn close_text(parent: usize, before: usize) -> &'static [u8]
     ensures text { result.now ≡ close_text parent before }
     ensures short { length result.now ≤ 1 }
 {
-    if parent == before { "" } else { "]" }
+    if parent == before { b"" } else { b"]" }
 }
 
 // What stands before a node's name: its edge, or `[` and its edge where its parent has a later child.
-fn open_text(later: bool, edge: Edge) -> &'static str
+fn open_text(later: bool, edge: Edge) -> &'static [u8]
     ensures text { result.now ≡ open_text later edge }
     ensures short { length result.now ≤ 4 }
 {
     match (later, edge) {
-        (false, Edge::Child) => "/",
-        (false, Edge::Descendant) => "//",
-        (true, Edge::Child) => "[",
-        (true, Edge::Descendant) => "[.//",
+        (false, Edge::Child) => b"/",
+        (false, Edge::Descendant) => b"//",
+        (true, Edge::Child) => b"[",
+        (true, Edge::Descendant) => b"[.//",
     }
 }
 
 // The lead.
-fn lead_text(mark: Mark) -> &'static str
+fn lead_text(mark: Mark) -> &'static [u8]
     ensures text { result.now ≡ lead_text mark }
     ensures short { length result.now ≤ 2 }
 {
     match mark {
-        Mark::Top => "/",
-        Mark::Any => "//",
+        Mark::Top => b"/",
+        Mark::Any => b"//",
     }
 }
 
 impl Twig {
     // The standard spelling.
-    fn spelled(&self) -> ArrayString<LONGEST>
-        ensures { result.bytes ≡ spelling (shape_of self.now) }
+    fn spelled(&self) -> ArrayVec<u8, LONGEST>
+        ensures { result.items ≡ spelling (shape_of self.now) }
     {
-        let mut out = ArrayString::new();
+        let mut out = ArrayVec::new();
         for (number, node) in self.nodes.as_slice().iter().enumerate() {
             match node.hook {
-                None => out.push_str(lead_text(self.mark)),
+                None => out.try_extend_from_slice(lead_text(self.mark)).unwrap(),
                 Some(hook) => {
                     let later = self.next_child(hook.parent, number).is_some();
-                    out.push_str(close_text(hook.parent, number - 1));
-                    out.push_str(open_text(later, hook.edge));
+                    out.try_extend_from_slice(close_text(hook.parent, number - 1))
+                        .unwrap();
+                    out.try_extend_from_slice(open_text(later, hook.edge))
+                        .unwrap();
                 }
             }
-            out.push_str(&node.name);
+            out.try_extend_from_slice(node.name.as_bytes()).unwrap();
         }
         out
     }
@@ -78,7 +80,7 @@ impl Twig {
         if len > out.len() {
             return Err(Refusal::SpellingWontFit.at(len));
         }
-        out[..len].copy_from_slice(text.as_bytes());
+        out[..len].copy_from_slice(&text);
         Ok(len)
     }
 }

@@ -1,6 +1,6 @@
 // A twig.
 ghost use Rattle.pattern.specs.Shape.{LawfulTwig};
-ghost use Rattle.pattern.specs.Table.{vertices};
+ghost use Rattle.pattern.specs.Table.{items, vertices};
 
 use super::node::Mark;
 use super::nodes::Nodes;
@@ -9,5 +9,5 @@ use super::nodes::Nodes;
 pub struct Twig {
     pub(crate) mark: Mark,
     pub(crate) nodes: Nodes,
-    ghost lawful: { ∥ LawfulTwig (vertices nodes.items) ∥₁ },
+    ghost lawful: { ∥ LawfulTwig (vertices (items nodes)) ∥₁ },
 }

@@ -1,7 +1,7 @@
 use Rattle.std.proofs.Common.{◌≡◌, [], refl, ◌∙◌}
 use Rattle.std.proofs.lemmas.Result.{err_from_is_err_and}
 use Rattle.pattern.specs.Reading.{step, limits, run_in, start, granted}
-use Rattle.pattern.specs.Table.{vertices}
+use Rattle.pattern.specs.Table.{items, vertices}
 use Rattle.pattern.specs.Moves.{outcome}
 use Rattle.pattern.proofs.Progress.{from_start, ended, ended_not}
 use Rattle.pattern.proofs.Trees.{read_lawful}
@@ -26,7 +26,7 @@ returns-in_err-end c =
     rw (p.1, p.2) (to_end (goal.at.returns-in_err-end c).In_ok-branch ∙ ended_not c.branch-reader.new.self _ _ _ c.in_ok-branch.ensures.stops c.in_err-end.ensures)
 
 -- to the end of the text
-granted_as : (c : In_ok-end) → run_in limits start 0 c.args.text.now ≡ granted c.in_ok-mark.mark (vertices c.branch-reader.new.self.nodes.items)
+granted_as : (c : In_ok-end) → run_in limits start 0 c.args.text.now ≡ granted c.in_ok-mark.mark (vertices (items c.branch-reader.new.self.nodes))
 granted_as c = to_end (goal.at.In_ok-end c).In_ok-branch ∙ ended c.branch-reader.new.self _ _ c.in_ok-end.ensures
 
 pub invariant_of-result : goal.invariant_of-result

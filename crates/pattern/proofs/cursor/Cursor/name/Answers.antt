@@ -1,7 +1,6 @@
-use Rattle.std.proofs.Common.{◌≡◌, true, Err, sym, ap, ◌∙◌, subst, arith, rules}
-use Rattle.std.specs.Str.{IsUtf8}
+use Rattle.std.proofs.Common.{◌≡◌, true, Err, sym, ap, ◌∙◌, arith, rules}
 use Rattle.pattern.specs.Moves.{begins_name}
-use Rattle.pattern.proofs.Steps.{name_not, name_full, name_too_long, name_read, name_some, name_utf8, valid}
+use Rattle.pattern.proofs.Steps.{name_not, name_full, name_too_long, name_read, name_some}
 use Rattle.pattern.proofs.cursor.Cursor.name.Goals as goal
 
 pub returns-then-not-begins_name : goal.returns-then-not-begins_name
@@ -16,11 +15,6 @@ pub returns-then-len-gt-MOST_BYTES : goal.returns-then-len-gt-MOST_BYTES
 returns-then-len-gt-MOST_BYTES c =
     let b : begins_name c.self.inside.left.now ≡ true = (λ i. begins_name (c.self.view_is i).rest) ∙ sym c.begins_name.ensures ∙ c.if-not-begins_name.false in
     rw (← c.self.view_is) (λ s e room. name_too_long s e _ _ _ b (room ∙ c.if-is_full.false) (sym c.run-len.ensures.value) c.if-len-gt-MOST_BYTES.true ∙ ap Err (sym c.at.ensures))
-
-pub unwrap-requires : goal.unwrap-requires
-unwrap-requires c =
-    let text = c.split_at.ensures.front in
-    valid _ _ c.from_utf8.result (subst IsUtf8 (sym text) (name_utf8 _ _ c.run-len.ensures.value)) c.from_utf8.ensures.cases
 
 pub returns : goal.returns
 returns c =

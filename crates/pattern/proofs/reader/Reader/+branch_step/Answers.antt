@@ -3,7 +3,7 @@ use Rattle.std.proofs.lemmas.List.{length_push}
 use Rattle.std.proofs.lemmas.Result.{err_from_is_err_and}
 use Rattle.pattern.specs.declared.node.Mark.{Mark}
 use Rattle.pattern.specs.Reading.{edge, step}
-use Rattle.pattern.specs.Table.{parent_of, edge_of}
+use Rattle.pattern.specs.Table.{parent_of, edge_of, items}
 use Rattle.pattern.specs.Moves.{outcome}
 use Rattle.pattern.proofs.Steps.{taken, shorter}
 use Rattle.pattern.proofs.Progress.{state, begun, begun_not, onward, opened, opens_not, enters, enters_not, closes_not, deeper}
@@ -55,7 +55,7 @@ pub step-loop-self-init : goal.step-loop-self-init
 step-loop-self-init t c =
     let p = c.push-node.ensures in
     let n = c.in_ok-name.ensures in
-    let more : length c.push-node.new.self.items ≡ length c.args.self.now.nodes.items + 1 = ap length p.items ∙ length_push c.args.self.now.nodes.items _ in (
+    let more : length (items c.push-node.new.self) ≡ length (items c.args.self.now.nodes) + 1 = ap length p.items ∙ length_push (items c.args.self.now.nodes) _ in (
       n.0,
       omega (arith, more),
       omega (arith, more, p.number),
