@@ -16,4 +16,5 @@ mod twig;
 
 pub use laws::{places, promises};
 pub use node::{Edge, Mark};
+pub use speller::LONGEST_SPELLING;
 pub use twig::Twig;

@@ -11,7 +11,7 @@ use arrayvec::ArrayVec;
 use markup::{Fault, Refusal};
 
 // The longest standard spelling: the root has 2 bytes and a name of 32, and each of 15 other nodes has 5 and a name of 32.
-const LONGEST: usize = 589;
+pub const LONGEST_SPELLING: usize = 589;
 
 // `]`, unless the node is a child of the node before it.
 fn close_text(parent: usize, before: usize) -> &'static [u8]
@@ -47,7 +47,7 @@ fn lead_text(mark: Mark) -> &'static [u8]
 
 impl Twig {
     // The standard spelling.
-    fn spelled(&self) -> ArrayVec<u8, LONGEST>
+    fn spelled(&self) -> ArrayVec<u8, LONGEST_SPELLING>
         ensures { result.items ≡ spelling (shape_of self.now) }
     {
         let mut out = ArrayVec::new();

@@ -3,115 +3,114 @@
 
 #[cfg(test)]
 mod tests {
-    use pattern::Twig;
+    use markup::Refusal;
+    use markup::Refusal::{Misfit, PatternNameTooLong, PatternTooLong, TooManySteps};
+    use pattern::{LONGEST_SPELLING, Twig};
     use std::process::Abort;
     use std::test::Fail;
 
-    // Room for the longest spelling.
-    const ROOM: usize = 589;
-
-    // What a text is to give: its standard spelling, or the number of a refusal and its place.
-    #[derive(Clone, Copy)]
-    enum Expected {
-        Spelled(&'static [u8]),
-        Refused(u8, usize),
-    }
-
-    use Expected::{Refused, Spelled};
-
-    static CASES: [(&'static [u8], Expected); 50] = [
+    // Texts, each with its standard spelling, or with its refusal and the place.
+    static CASES: [(&'static [u8], Result<&'static [u8], (Refusal, usize)>); 50] = [
         // Leads, edges and branches.
-        (b"/a", Spelled(b"/a")),
-        (b"//a", Spelled(b"//a")),
-        (b"//a/b//c", Spelled(b"//a/b//c")),
-        (b"//a[b]", Spelled(b"//a/b")),
-        (b"//a[.//b]", Spelled(b"//a//b")),
-        (b"//a[b][c]", Spelled(b"//a[b]/c")),
-        (b"//a[b][.//c]", Spelled(b"//a[b]//c")),
-        (b"//a[.//b]/c", Spelled(b"//a[.//b]/c")),
-        (b"//a[b/c]//d", Spelled(b"//a[b/c]//d")),
-        (b"//a/b[c][d]", Spelled(b"//a/b[c]/d")),
-        (b"/a[b[c]/d][.//e]", Spelled(b"/a[b[c]/d]//e")),
-        (b"//b[p][p]", Spelled(b"//b[p]/p")),
+        (b"/a", Ok(b"/a")),
+        (b"//a", Ok(b"//a")),
+        (b"//a/b//c", Ok(b"//a/b//c")),
+        (b"//a[b]", Ok(b"//a/b")),
+        (b"//a[.//b]", Ok(b"//a//b")),
+        (b"//a[b][c]", Ok(b"//a[b]/c")),
+        (b"//a[b][.//c]", Ok(b"//a[b]//c")),
+        (b"//a[.//b]/c", Ok(b"//a[.//b]/c")),
+        (b"//a[b/c]//d", Ok(b"//a[b/c]//d")),
+        (b"//a/b[c][d]", Ok(b"//a/b[c]/d")),
+        (b"/a[b[c]/d][.//e]", Ok(b"/a[b[c]/d]//e")),
+        (b"//b[p][p]", Ok(b"//b[p]/p")),
         // Names.
-        (b"//_a-1.", Spelled(b"//_a-1.")),
-        (b"//a.//b", Spelled(b"//a.//b")),
+        (b"//_a-1.", Ok(b"//_a-1.")),
+        (b"//a.//b", Ok(b"//a.//b")),
         (
             b"//abcdefghijklmnopqrstuvwxyzABCDEF",
-            Spelled(b"//abcdefghijklmnopqrstuvwxyzABCDEF"),
+            Ok(b"//abcdefghijklmnopqrstuvwxyzABCDEF"),
         ),
-        (b"//abcdefghijklmnopqrstuvwxyzABCDEFG", Refused(17, 34)),
-        (b"//a[b/abcdefghijklmnopqrstuvwxyz0123456]", Refused(17, 38)),
+        (
+            b"//abcdefghijklmnopqrstuvwxyzABCDEFG",
+            Err((PatternNameTooLong, 34)),
+        ),
+        (
+            b"//a[b/abcdefghijklmnopqrstuvwxyz0123456]",
+            Err((PatternNameTooLong, 38)),
+        ),
         // Misfits.
-        (b"", Refused(15, 0)),
-        (b"a", Refused(15, 0)),
-        (b"/", Refused(15, 1)),
-        (b"//", Refused(15, 2)),
-        (b"///a", Refused(15, 2)),
-        (b"//1a", Refused(15, 2)),
-        (b"//.a", Refused(15, 2)),
-        (b"//a b", Refused(15, 3)),
-        (b"//a/", Refused(15, 4)),
-        (b"//a///b", Refused(15, 5)),
-        (b"//a]", Refused(15, 3)),
-        (b"//a[", Refused(15, 4)),
-        (b"//a[]", Refused(15, 4)),
-        (b"//a[[b]]", Refused(15, 4)),
-        (b"//a[/b]", Refused(15, 4)),
-        (b"//a[//b]", Refused(15, 4)),
-        (b"//a[./b]", Refused(15, 6)),
-        (b"//a[.b]", Refused(15, 5)),
-        (b"//a[b", Refused(15, 5)),
-        (b"//a[b]c", Refused(15, 6)),
-        (b"//a[b]]", Refused(15, 6)),
+        (b"", Err((Misfit, 0))),
+        (b"a", Err((Misfit, 0))),
+        (b"/", Err((Misfit, 1))),
+        (b"//", Err((Misfit, 2))),
+        (b"///a", Err((Misfit, 2))),
+        (b"//1a", Err((Misfit, 2))),
+        (b"//.a", Err((Misfit, 2))),
+        (b"//a b", Err((Misfit, 3))),
+        (b"//a/", Err((Misfit, 4))),
+        (b"//a///b", Err((Misfit, 5))),
+        (b"//a]", Err((Misfit, 3))),
+        (b"//a[", Err((Misfit, 4))),
+        (b"//a[]", Err((Misfit, 4))),
+        (b"//a[[b]]", Err((Misfit, 4))),
+        (b"//a[/b]", Err((Misfit, 4))),
+        (b"//a[//b]", Err((Misfit, 4))),
+        (b"//a[./b]", Err((Misfit, 6))),
+        (b"//a[.b]", Err((Misfit, 5))),
+        (b"//a[b", Err((Misfit, 5))),
+        (b"//a[b]c", Err((Misfit, 6))),
+        (b"//a[b]]", Err((Misfit, 6))),
         // Sixteen names, and a seventeenth.
         (
             b"//a/a/a/a/a/a/a/a/a/a/a/a/a/a/a/a",
-            Spelled(b"//a/a/a/a/a/a/a/a/a/a/a/a/a/a/a/a"),
+            Ok(b"//a/a/a/a/a/a/a/a/a/a/a/a/a/a/a/a"),
         ),
-        (b"//a/a/a/a/a/a/a/a/a/a/a/a/a/a/a/a/a", Refused(16, 34)),
-        (b"//a/a/a/a/a/a/a/a/a/a/a/a/a/a/a/a/1", Refused(15, 34)),
-        (b"//a/a/a/a/a/a/a/a/a/a/a/a/a/a/a/a/", Refused(15, 34)),
-        // Eight open brackets, and a ninth. A spelling opens seven at most.
         (
-            b"//a[a[a[a[a[a[a[a[a]]]]]]]]",
-            Spelled(b"//a/a/a/a/a/a/a/a/a"),
+            b"//a/a/a/a/a/a/a/a/a/a/a/a/a/a/a/a/a",
+            Err((TooManySteps, 34)),
         ),
-        (b"//a[a[a[a[a[a[a[a[a[a]]]]]]]]]", Refused(16, 19)),
-        (b"//a[a[a[a[a[a[a[a[[", Refused(15, 18)),
+        (b"//a/a/a/a/a/a/a/a/a/a/a/a/a/a/a/a/1", Err((Misfit, 34))),
+        (b"//a/a/a/a/a/a/a/a/a/a/a/a/a/a/a/a/", Err((Misfit, 34))),
+        // Eight open brackets, and a ninth. A spelling opens seven at most.
+        (b"//a[a[a[a[a[a[a[a[a]]]]]]]]", Ok(b"//a/a/a/a/a/a/a/a/a")),
+        (b"//a[a[a[a[a[a[a[a[a[a]]]]]]]]]", Err((TooManySteps, 19))),
+        (b"//a[a[a[a[a[a[a[a[[", Err((Misfit, 18))),
         (
             b"//a[a[a[a[a[a[a[a[a]]]]]]]][b][c]",
-            Spelled(b"//a[a/a/a/a/a/a/a/a][b]/c"),
+            Ok(b"//a[a/a/a/a/a/a/a/a][b]/c"),
         ),
         (
             b"//a[a[a[a[a[a[a[a/a]/a]/a]/a]/a]/a]/a]/a",
-            Spelled(b"//a[a[a[a[a[a[a[a/a]/a]/a]/a]/a]/a]/a]/a"),
+            Ok(b"//a[a[a[a[a[a[a[a/a]/a]/a]/a]/a]/a]/a]/a"),
         ),
         // The leftmost place decides.
-        (b"//a//b[[c]]d", Refused(15, 7)),
-        (b"//abcdefghijklmnopqrstuvwxyzABCDEFG[", Refused(17, 34)),
-        (b"//a[b]\n", Refused(15, 6)),
+        (b"//a//b[[c]]d", Err((Misfit, 7))),
+        (
+            b"//abcdefghijklmnopqrstuvwxyzABCDEFG[",
+            Err((PatternNameTooLong, 34)),
+        ),
+        (b"//a[b]\n", Err((Misfit, 6))),
     ];
 
-    // The spelling of the twig is this text.
+    // The twig has this spelling.
     fn is_spelled(rt: &impl Abort, twig: &Twig, expected: &[u8]) -> Result<(), Fail> {
-        let mut out = [0; ROOM];
+        let mut out = [0; LONGEST_SPELLING];
         let len = twig.spell(&mut out)?;
-        assert!(rt; len <= ROOM);
-        assert!(rt; &out[0..len] == expected);
+        assert!(rt; len <= LONGEST_SPELLING);
+        assert_eq!(rt; &out[..len], expected);
         Ok(())
     }
 
-    // The text is refused so, and the twig keeps its spelling.
-    fn is_refused(rt: &impl Abort, text: &[u8], number: u8, place: usize) -> Result<(), Fail> {
+    // The text is refused so, and the twig stays as it was.
+    fn is_refused(
+        rt: &impl Abort,
+        text: &[u8],
+        refusal: Refusal,
+        place: usize,
+    ) -> Result<(), Fail> {
         let mut twig = Twig::new();
-        match twig.read(text) {
-            Ok(()) => return Err(Fail::new("granted")),
-            Err(fault) => {
-                assert_eq!(rt; fault.refusal.number(), number);
-                assert_eq!(rt; fault.place, place);
-            }
-        }
+        assert_eq!(rt; twig.read(text), Err(refusal.at(place)));
         is_spelled(rt, &twig, b"//a")
     }
 
@@ -119,16 +118,24 @@ mod tests {
     fn texts(rt: HostRuntime) -> Result<(), Fail> {
         for (text, expected) in CASES {
             match expected {
-                Spelled(spelling) => {
+                Ok(spelling) => {
                     let mut twig = Twig::new();
                     twig.read(text)?;
                     is_spelled(&rt, &twig, spelling)?;
                 }
-                Refused(number, place) => is_refused(&rt, text, number, place)?,
+                Err((refusal, place)) => is_refused(&rt, text, refusal, place)?,
             }
         }
-        is_refused(&rt, &[b'/'; 1024], 15, 2)?;
-        is_refused(&rt, &[b'/'; 1025], 14, 1024)
+        is_refused(&rt, &[b'/'; 1024], Misfit, 2)?;
+        is_refused(&rt, &[b'/'; 1025], PatternTooLong, 1024)
+    }
+
+    #[test]
+    fn numbers(rt: HostRuntime) {
+        assert_eq!(rt; PatternTooLong.number(), 14);
+        assert_eq!(rt; Misfit.number(), 15);
+        assert_eq!(rt; TooManySteps.number(), 16);
+        assert_eq!(rt; PatternNameTooLong.number(), 17);
     }
 
     // A text is answered; where it is granted, its spelling is read back as the same twig.
@@ -137,12 +144,12 @@ mod tests {
         if twig.read(text).is_err() {
             return Ok(());
         }
-        let mut out = [0; ROOM];
+        let mut out = [0; LONGEST_SPELLING];
         let len = twig.spell(&mut out)?;
-        assert!(rt; len <= ROOM);
+        assert!(rt; len <= LONGEST_SPELLING);
         let mut again = Twig::new();
-        again.read(&out[0..len])?;
-        is_spelled(rt, &again, &out[0..len])
+        again.read(&out[..len])?;
+        is_spelled(rt, &again, &out[..len])
     }
 
     const SAMPLE: [u8; 22] = *b"/a[.//b[c]]/d-1[e]//f.";
@@ -150,8 +157,9 @@ mod tests {
     #[test]
     fn changes(rt: HostRuntime) -> Result<(), Fail> {
         for end in 0..=SAMPLE.len() {
-            reads_back(&rt, &SAMPLE[0..end])?;
+            reads_back(&rt, &SAMPLE[..end])?;
         }
+        // By numbers: each place of a copy is written in turn.
         for i in 0..SAMPLE.len() {
             for b in 0..=255 {
                 let mut text = SAMPLE;
