@@ -1,19 +1,17 @@
 -- The laws of what writing, opening and a view answer.
-use Rattle.std.proofs.Common.{◌≡◌, ℕ, ◌*◌, ◌<◌, ◌≤◌, cond, ltb, List, length, Ok, Err, Result, sym, refl, ap, ◌∙◌, inl, inr, ⊎_elim, arith, lit<}
-use Rattle.std.proofs.lemmas.Bool.{cases_order, lt-ltb, ltb-true, cond-true, cond_both}
+use Rattle.std.proofs.Common.{◌≡◌, ℕ, ◌*◌, ◌<◌, Bool, true, false, cond, ltb, List, length, Ok, Err, Result, Some, None, sym, refl, ap, ◌∙◌, inl, inr, ⊎_elim, arith, lit<}
+use Rattle.std.proofs.lemmas.Bool.{cases_order, lt-ltb, ltb-true, ltb-false}
 use Rattle.markup.specs.declared.fault.Fault.{Fault}
 use Rattle.markup.specs.declared.fault.Refusal.TheVariants.{SheetWontFit, HeaderField, ElementRecord, NameRecord}
 use Rattle.markup.specs.Faults.{fault, and_then}
-use Rattle.layout.specs.Layout.{element_count, element_offset, next_at, name_count, name_at, name_offset}
-use Rattle.layout.specs.Lawful.{RightHeader, RightElement, LawfulSheet}
+use Rattle.layout.specs.Layout.{element_count, element_offset, name_count, name_offset}
+use Rattle.layout.specs.Lawful.{FirstNamed, RightHeader, RightElement}
 use Rattle.layout.specs.Encoding.{sheet_of}
 use Rattle.layout.proofs.Encoded.{few_elements, named_below, names_short, sheet_reads_back}
 use Rattle.sheet.specs.Opening.{FirstWrong, Each, Sized, WrongLength, WrongHeader, WrongElement, WrongName, Refused}
-use Rattle.sheet.specs.Viewing.{next_in, first_in}
-use Rattle.sheet.specs.Laws.{LawfulTreesAreEncoded, EncodingsOpen, OpeningHasOneAnswer, ChainsFollowNames}
+use Rattle.sheet.specs.Laws.{LawfulTreesAreEncoded, EncodingsOpen, OpeningHasOneAnswer, FirstIfAny, ChainsFollowNames}
 use Rattle.sheet.proofs.Fields.{fields_fit_lem}
 use Rattle.sheet.proofs.Opening.{refused_unlawful}
-use Rattle.sheet.proofs.Props.{lawful_of}
 
 pub lawful_trees_are_encoded : LawfulTreesAreEncoded
 lawful_trees_are_encoded t law room =
@@ -98,24 +96,16 @@ opening_has_one_answer bs (Err f) (Err g) a b = ap Err (one_refusal bs f g a b)
 
 -- What a view tells of a lawful sheet.
 
+first_if_any : (bs : List ℕ) (x m i : ℕ) (b : Bool) → FirstNamed bs x m i → ltb i (element_count bs) ≡ b → FirstIfAny bs x m (cond b (Some i) None)
+first_if_any bs x m i true f e = (ltb-true _ _ e, f)
+first_if_any bs x m i false f e = let c : i ≡ element_count bs = omega (arith, ltb-false i (element_count bs) e, f.within) in rw c at f
+
 pub chains_follow_names : ChainsFollowNames
 chains_follow_names bs law = (
   λ k h.
-      let e : next_in bs k ≡ next_at bs k = cond-true _ _ _ (lt-ltb _ _ h) in
-      rw e (law.elements k h).numbers.next,
+      let e : ltb k (element_count bs) ≡ true = lt-ltb _ _ h in
+      rw e (first_if_any bs _ _ _ _ (law.elements k h).numbers.next refl),
   λ j h.
-      let e : first_in bs j ≡ (name_at bs j).first = cond-true _ _ _ (lt-ltb _ _ h) in
-      rw e ((law.names j h).has, (law.names j h).first),
+      let e : ltb j (name_count bs) ≡ true = lt-ltb _ _ h in
+      rw e (refl, ((law.names j h).has, (law.names j h).first)),
 )
-
--- no number that a view tells is past the count of elements
-module _ (bs : List ℕ) (law : ∥ LawfulSheet bs ∥₁) where
-  pub next_within : (k : ℕ) → next_in bs k ≤ element_count bs
-  next_within k =
-      cond_both (ltb k (element_count bs)) (next_at bs k) (element_count bs) (λ n. n ≤ element_count bs)
-      (λ e. ((lawful_of bs law).elements k (ltb-true _ _ e)).numbers.next.within) (λ e. omega arith)
-
-  pub first_within : (j : ℕ) → first_in bs j ≤ element_count bs
-  first_within j =
-      cond_both (ltb j (name_count bs)) (name_at bs j).first (element_count bs) (λ n. n ≤ element_count bs)
-      (λ e. ((lawful_of bs law).names j (ltb-true _ _ e)).first.within) (λ e. omega arith)

@@ -1,5 +1,5 @@
 -- The laws of writing, opening and viewing sheets.
-use Rattle.std.specs.Prelude.{◌≡◌, ℕ, ◌+◌, ◌<◌, cond, List, length, Ok, Err, Result, nat_lt}
+use Rattle.std.specs.Prelude.{◌≡◌, ℕ, ◌+◌, ◌<◌, cond, List, length, Ok, Err, Result, Some, None, Option, IsSome, nat_lt}
 use Rattle.markup.specs.declared.fault.Fault.{Fault}
 use Rattle.markup.specs.declared.fault.Refusal.TheVariants.{SheetWontFit}
 use Rattle.markup.specs.Faults.{fault}
@@ -26,9 +26,14 @@ EncodingsOpen = (t : Tree) → LawfulTree t → (r : Result (Unit {0}) Fault) �
 abbrev pub OpeningHasOneAnswer : Type 0
 OpeningHasOneAnswer = (bs : List ℕ) (r s : Result (Unit {0}) Fault) → Opened bs r → Opened bs s → r ≡ s
 
--- On a lawful sheet, `next` is the nearest later element of the same name, and `first` is the first element of a name.
+-- the number of the first element from m on with the name number x, or none where no element from m on has it
+abbrev pub FirstIfAny : List ℕ → ℕ → ℕ → Option ℕ → Type 0
+FirstIfAny bs x m None = FirstNamed bs x m (element_count bs)
+FirstIfAny bs x m (Some i) = (i < element_count bs) × FirstNamed bs x m i
+
+-- On a lawful sheet, `next` is the nearest later element of the same name, if there is one, and `first` is the first element of a name.
 abbrev pub ChainsFollowNames : Type 0
 ChainsFollowNames =
     (bs : List ℕ) → LawfulSheet bs
-    → ((k : ℕ) → k < element_count bs → FirstNamed bs (element_at bs k).name (k + 1) (next_in bs k))
-    × ((j : ℕ) → j < name_count bs → (first_in bs j < element_count bs) × FirstNamed bs j 0 (first_in bs j))
+    → ((k : ℕ) → k < element_count bs → FirstIfAny bs (element_at bs k).name (k + 1) (next_in bs k))
+    × ((j : ℕ) → j < name_count bs → IsSome (first_in bs j) × FirstIfAny bs j 0 (first_in bs j))

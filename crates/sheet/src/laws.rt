@@ -16,7 +16,7 @@ pub fn opening_has_one_answer()
     ensures { OpeningHasOneAnswer }
 {}
 
-// On a lawful sheet, `next` is the nearest later element of the same name, and `first` is the first element of a name.
+// On a lawful sheet, `next` is the nearest later element of the same name, if there is one, and `first` is the first element of a name.
 pub fn chains_follow_names()
     ensures { ChainsFollowNames }
 {}

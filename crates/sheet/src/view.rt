@@ -69,16 +69,16 @@ impl<'b> SheetView<'b> {
         }
     }
 
-    // The number of the nearest later element with element k's name; the count of elements where there is none.
-    pub fn next(&self, k: u32) -> u32
+    // The number of the nearest later element with element k's name, if there is one.
+    pub fn next(&self, k: u32) -> Option<u32>
         ensures { result ≡ next_in self.now.bytes.now k }
     {
         let count = self.element_count();
-        if k < count {
-            read::read_next(self.bytes, k)
-        } else {
-            count
+        if k >= count {
+            return None;
         }
+        let next = read::read_next(self.bytes, k);
+        (next < count).then_some(next)
     }
 
     // The bytes of name j.
@@ -91,14 +91,14 @@ impl<'b> SheetView<'b> {
         Some(read::read_text(self.bytes, j))
     }
 
-    // The number of the first element with name j; the count of elements where there is no such name.
-    pub fn first(&self, j: u32) -> u32
+    // The number of the first element with name j, if there is such a name.
+    pub fn first(&self, j: u32) -> Option<u32>
         ensures { result ≡ first_in self.now.bytes.now j }
     {
         if j < self.name_count() {
-            read::read_name(self.bytes, j).first
+            Some(read::read_name(self.bytes, j).first)
         } else {
-            self.element_count()
+            None
         }
     }
 

@@ -7,7 +7,8 @@ fn shows_the_smallest_sheet_first(rt: HostRuntime) {
     let view = SheetView::new();
     assert!(rt; view.element_count() == 1 && view.name_count() == 1);
     assert_eq!(rt; view.name(0), Some(b"a".as_slice()));
-    assert!(rt; view.next(0) == 1 && view.first(0) == 0);
+    assert_eq!(rt; view.next(0), None);
+    assert_eq!(rt; view.first(0), Some(0));
 }
 
 #[test]
@@ -19,11 +20,12 @@ fn shows_the_book(rt: HostRuntime) {
         assert_eq!(rt; view.element(k as u32), Some(*element));
     }
     assert_eq!(rt; view.element(4), None);
-    assert!(rt; view.next(0) == 4 && view.next(1) == 3 && view.next(2) == 4 && view.next(3) == 4);
-    assert!(rt; view.next(4) == 4);
-    assert!(rt;
-        view.first(0) == 0 && view.first(1) == 1 && view.first(2) == 2 && view.first(3) == 4
-    );
+    for (k, next) in [None, Some(3), None, None, None].iter().enumerate() {
+        assert_eq!(rt; view.next(k as u32), *next);
+    }
+    for (j, first) in [Some(0), Some(1), Some(2), None].iter().enumerate() {
+        assert_eq!(rt; view.first(j as u32), *first);
+    }
     assert_eq!(rt; view.name(0), Some(b"b".as_slice()));
     assert_eq!(rt; view.name(1), Some(b"p".as_slice()));
     assert_eq!(rt; view.name(2), Some(b"n".as_slice()));
