@@ -1,9 +1,9 @@
 -- How a filter goes with the calls of a stream set.
-use Rattle.std.proofs.Common.{◌≡◌, ℕ, Bool, true, false, cond, ◌||◌, eqb, List, [], ◌∷◌, Some, None, filter, sym, refl, ◌∙◌, arith, eqb-true}
+use Rattle.std.proofs.Common.{◌≡◌, ℕ, Bool, true, false, cond, ◌||◌, eqb, leb, List, [], ◌∷◌, Some, None, Option, MatchOption, filter, sym, refl, subst, ◌∙◌, arith, eqb-true}
 use Rattle.std.proofs.Math.Path.{fun_ext}
 use Rattle.std.specs.List.{AllByRecursion as Every}
 use Rattle.std.proofs.ByRecursion.{all_kept_by, All-weaker}
-use Rattle.std.proofs.lemmas.Bool.{cond_both, ltb-true, lt-ltb, le-ltb, or_right, and_left}
+use Rattle.std.proofs.lemmas.Bool.{cond_both, leb-true, leb-false, ltb-true, lt-ltb, le-ltb, or_right, and_left}
 use Rattle.stream.specs.declared.region.Region.{Region}
 use Rattle.stream.proofs.Parts.{Rising}
 use Rattle.stream.specs.Lists.{update, first, rest, drop_until, past, around, halts, first_passes, NoneOrPasses}
@@ -17,6 +17,20 @@ if_passes p (x ∷ xs) h = h
 pub passes_first : (p : Region → Bool) (xs : List Region) (r : Region) → first xs ≡ Some r → first_passes p xs ≡ p r
 passes_first p [] r e = cc
 passes_first p (x ∷ xs) r e = cc
+
+-- the answer of `is_some_and` at the first
+pub passes_from_first : (p : Region → Bool) (xs : List Region) (o : Option Region) (b : Bool) → o ≡ first xs → MatchOption o (b ≡ false) (λ r. b ≡ p r) → b ≡ first_passes p xs
+passes_from_first p [] o b e m = let h = subst (λ o. MatchOption o (b ≡ false) (λ r. b ≡ p r)) e m in h
+passes_from_first p (x ∷ xs) o b e m = let h = subst (λ o. MatchOption o (b ≡ false) (λ r. b ≡ p r)) e m in h
+
+-- where `skip_beyond` goes on, and where it ends
+pub not_past : (s : ℕ) (xs : List Region) → first_passes (λ r. leb r.start s) xs ≡ true → first_passes (past s) xs ≡ false
+not_past s [] h = refl
+not_past s (x ∷ xs) h = le-ltb s x.start (leb-true x.start s h)
+
+pub past_or_none : (s : ℕ) (xs : List Region) → first_passes (λ r. leb r.start s) xs ≡ false → NoneOrPasses (past s) xs
+past_or_none s [] h = tt
+past_or_none s (x ∷ xs) h = lt-ltb s x.start (leb-false x.start s h)
 
 pub if_none : (p : Region → Bool) (xs : List Region) → first xs ≡ None → NoneOrPasses p xs
 if_none p [] e = tt

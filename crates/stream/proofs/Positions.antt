@@ -1,5 +1,5 @@
 -- A change at one position, and the front of a list.
-use Rattle.std.proofs.Common.{◌≡◌, ℕ, Bool, true, false, cond, eqb, List, [], ◌∷◌, Some, None, sym, refl, ap, ◌∙◌, eq-eqb, eqb-true}
+use Rattle.std.proofs.Common.{◌≡◌, ℕ, ◌+◌, Bool, true, false, cond, eqb, List, [], ◌∷◌, length, is_some, sym, refl, ap, ◌∙◌, arith, eq-eqb, eqb-true}
 use Rattle.std.proofs.Math.Path.{fun_ext}
 use Rattle.std.proofs.lemmas.Bool.{cond_both, cond-true}
 use Rattle.stream.specs.declared.region.Region.{Region}
@@ -29,13 +29,13 @@ update_id i lists = fun_ext (λ j. cond_both (eqb j i) _ _ (λ xs. xs ≡ lists 
 pub update_fixed : (i : ℕ) (f : List Region → List Region) (lists : ℕ → List Region) → f (lists i) ≡ lists i → update i f lists ≡ lists
 update_fixed i f lists h = update_same i f (λ xs. xs) lists h ∙ update_id i lists
 
-pub nil_from_first : (xs : List Region) → first xs ≡ None → xs ≡ []
+pub nil_from_first : (xs : List Region) → is_some (first xs) ≡ false → xs ≡ []
 nil_from_first [] e = refl
 nil_from_first (x ∷ xs) e = cc
 
-pub cons_from_first : (xs : List Region) (r : Region) → first xs ≡ Some r → xs ≡ r ∷ rest xs
-cons_from_first [] r e = cc
-cons_from_first (x ∷ xs) r e = cc
+pub one_from_first : (xs : List Region) → is_some (first xs) ≡ true → length xs ≡ length (rest xs) + 1
+one_from_first [] e = cc
+one_from_first (x ∷ xs) e = omega arith
 
 pub same_update : (i : ℕ) (f g : List Region → List Region) (xs ys : ℕ → List Region) → update i f xs ≡ update i g ys → f (xs i) ≡ g (ys i)
 same_update i f g xs ys e = sym (update_here i f xs) ∙ ap (λ lists. lists i) e ∙ update_here i g ys

@@ -1,12 +1,18 @@
 -- What a band and a window keep.
-use Rattle.std.specs.Prelude.{ℕ, Bool, ◌&&◌, nat_le, nat_lt, slice_index}
+use Rattle.std.specs.Prelude.{ℕ, Bool, false, ◌&&◌, nat_le, nat_lt, slice_get}
+use Rattle.std.specs.Option.{option_map_or}
 use Rattle.stream.specs.declared.region.Region.{Region}
+use Rattle.stream.specs.declared.rule.LevelRange.{LevelRange}
 use Rattle.stream.specs.declared.rule.Levels.{Levels}
 use Rattle.stream.specs.declared.rule.Span.{Span}
 
+-- from the lowest level to the highest
+abbrev pub in_range : LevelRange → ℕ → Bool
+in_range range level = nat_le range.lowest level && nat_le level range.highest
+
 -- within the levels of position i
 abbrev pub within : Levels → ℕ → Region → Bool
-within l i r = nat_lt i 16 && (nat_le (slice_index l.lowest i) r.level && nat_le r.level (slice_index l.highest i))
+within l i r = option_map_or (λ range. in_range range r.level) (slice_get l.ranges i) false
 
 -- inside the span
 abbrev pub inside : Span → Region → Bool

@@ -1,7 +1,7 @@
 // Layers: a skipping set, narrowed to the regions that a rule keeps.
 ghost use Rattle.std.specs.Prelude.{◌≡◌, ℕ, Bool};
 ghost use Rattle.stream.specs.declared.region.Region.{Region};
-ghost use Rattle.stream.specs.Lists.{first, first_passes, NoneOrPasses};
+ghost use Rattle.stream.specs.Lists.{first, NoneOrPasses};
 ghost use Rattle.stream.specs.Narrowing.{narrowed, narrowed_laws};
 
 use crate::region::Region;
@@ -31,6 +31,7 @@ impl<S: StreamSet, K: Keep> Narrowed<S, K> {
         ensures rule { self.new.rule ≡ self.old.rule }
         ensures book { S.StreamSet.book self.new.below ≡ S.StreamSet.book self.old.below }
     {
+        // A loop, since `find` of an iterator would take the region that it finds away.
         while let Some(r) = self.below.tell(i) {
             if self.rule.keep(i, r) {
                 return Some(r);
@@ -38,19 +39,6 @@ impl<S: StreamSet, K: Keep> Narrowed<S, K> {
             self.below.advance(i);
         }
         None
-    }
-
-    // Whether the first region of list i below is there and kept.
-    fn first_is_kept(&mut self, i: usize) -> bool
-        ensures told { result ≡ first_passes (K.Keep.keeps self.old.rule i) (S.StreamSet.lists self.old.below i) }
-        ensures same { S.StreamSet.lists self.new.below ≡ S.StreamSet.lists self.old.below }
-        ensures rule { self.new.rule ≡ self.old.rule }
-        ensures book { S.StreamSet.book self.new.below ≡ S.StreamSet.book self.old.below }
-    {
-        match self.below.tell(i) {
-            Some(r) => self.rule.keep(i, r),
-            None => false,
-        }
     }
 }
 
@@ -79,7 +67,7 @@ impl<S: SkippingSet, K: Keep> SkippingSet for Narrowed<S, K> {
 
     fn skip_to_ancestor(&mut self, i: usize, s: u32) -> bool {
         while self.below.skip_to_ancestor(i, s) {
-            if self.first_is_kept(i) {
+            if self.below.tell(i).is_some_and(|r| self.rule.keep(i, r)) {
                 return true;
             }
             self.below.advance(i);

@@ -8,5 +8,5 @@ pub mod set;
 pub mod walk;
 
 pub use region::Region;
-pub use rule::{Band, Levels, Span, Window};
-pub use set::{SkippingSet, StreamSet};
+pub use rule::{Band, LevelRange, Levels, Span, Window};
+pub use set::{POSITIONS, SkippingSet, StreamSet};

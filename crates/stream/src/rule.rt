@@ -1,21 +1,40 @@
 // The rules of the two layers.
-ghost use Rattle.stream.specs.Rules.{within, inside};
+ghost use Rattle.std.specs.Prelude.{◌≡◌};
+ghost use Rattle.stream.specs.Rules.{in_range, within, inside};
 
 use crate::layer::{Keep, Narrowed};
 use crate::region::Region;
+use crate::set::POSITIONS;
 
-// The lowest and the highest level at each position. Where the lowest is above the highest, nothing is kept.
+// From the lowest level to the highest. Where the lowest is above the highest, no level is between them.
+#[derive(Clone, Copy, Drop)]
+pub struct LevelRange {
+    pub lowest: u32,
+    pub highest: u32,
+}
+
+impl LevelRange {
+    // Whether the level is between the lowest and the highest, or one of them.
+    pub fn contains(self, level: u32) -> bool
+        ensures { result ≡ in_range self level }
+    {
+        (self.lowest..=self.highest).contains(&level)
+    }
+}
+
+// The levels at each position.
 #[derive(Clone, Copy, Drop)]
 pub struct Levels {
-    pub lowest: [u32; 16],
-    pub highest: [u32; 16],
+    pub ranges: [LevelRange; POSITIONS],
 }
 
 impl Keep for Levels {
     ghost keeps = { within };
 
     fn keep(&self, i: usize, r: Region) -> bool {
-        i < 16 && self.lowest[i] <= r.level && r.level <= self.highest[i]
+        self.ranges
+            .get(i)
+            .is_some_and(|range| range.contains(r.level))
     }
 }
 

@@ -10,8 +10,9 @@ pub fn count<S: SkippingSet>(set: &mut S, i: usize) -> usize
     ensures empty { S.StreamSet.lists set.new ≡ update i (λ _. []) (S.StreamSet.lists set.old) }
     ensures book { S.StreamSet.book set.new ≡ S.StreamSet.book set.old }
 {
+    // Counted by hand, since an iterator over the set would be a struct of its own for this one call.
     let mut n = 0;
-    while let Some(_) = set.tell(i) {
+    while set.tell(i).is_some() {
         set.advance(i);
         n += 1;
     }

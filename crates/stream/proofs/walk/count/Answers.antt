@@ -1,7 +1,7 @@
-use Rattle.std.proofs.Common.{◌≡◌, [], length, sym, ap, ◌∙◌, arith}
+use Rattle.std.proofs.Common.{◌≡◌, [], length, is_some, sym, ap, ◌∙◌, arith}
 use Rattle.stream.specs.Lists.{update, rest}
 use Rattle.stream.proofs.Parts.{few_part}
-use Rattle.stream.proofs.Positions.{update-update, update_here, update_fixed, nil_from_first, cons_from_first}
+use Rattle.stream.proofs.Positions.{update-update, update_here, update_fixed, nil_from_first, one_from_first}
 use Rattle.stream.proofs.walk.count.Goals as goal
 
 pub overflow_add-n : goal.overflow_add-n
@@ -16,7 +16,7 @@ loop-set-preserved g c =
     let i = c.args.i in
     let before = m.lists c.loop-set.set in
     let after : m.lists c.advance.new.self ≡ update i rest before = c.advance.ensures.less ∙ ap (update i rest) c.tell.ensures.same in
-    let one = ap length (cons_from_first (before i) _ (sym c.tell.ensures.told ∙ c.in-Some.is)) in
+    let one = one_from_first (before i) (ap is_some (sym c.tell.ensures.told) ∙ sym c.is_some.ensures ∙ c.loop-set-test.true) in
     let here = ap (λ lists. length (lists i)) after ∙ ap length (update_here i rest before) in
     (omega arith, ap (update i (λ _. [])) after ∙ update-update i (λ _. []) rest before ∙ c.loop-set.invariant.1, cc)
 
@@ -24,7 +24,7 @@ pub returns : goal.returns
 returns g c =
     let m = g.S.StreamSet in
     let left = m.lists c.loop-set.set in
-    let none : left c.args.i ≡ [] = nil_from_first _ (sym c.tell.ensures.told ∙ c.in_default.is) in
+    let none : left c.args.i ≡ [] = nil_from_first _ (ap is_some (sym c.tell.ensures.told) ∙ sym c.is_some.ensures ∙ c.loop-set-test.false) in
     let over = ap length none in
     record {
       count = omega arith;
