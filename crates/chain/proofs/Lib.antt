@@ -1,2 +1,3 @@
 pub mod Follow
+pub mod FromFn
 pub mod Naming

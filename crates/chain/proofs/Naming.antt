@@ -1,21 +1,21 @@
 -- The elements with a name are those with its number.
-use Rattle.std.proofs.Common.{◌≡◌, ℕ, zero, suc, ◌+◌, ◌-◌, ◌<◌, ◌≤◌, Bool, true, false, eqb, ltb, List, [], ◌∷◌, map, length, get_or, set, filter, sym, refl, ap, ◌∙◌, subst, ⊎_elim, arith}
+use Rattle.std.proofs.Common.{◌≡◌, ℕ, zero, suc, ◌+◌, ◌-◌, ◌<◌, ◌≤◌, Bool, true, false, eqb, ltb, List, [], ◌∷◌, map, length, get_or, None, Option, filter, sym, refl, ap, ◌∙◌, ⊎_elim, arith}
 use Rattle.std.proofs.Math.Path.{fun_ext}
 use Rattle.std.specs.List.{range_with_len}
-use Rattle.std.proofs.lemmas.List.{get_or-set_same, get_or-set_other}
 use Rattle.std.proofs.lemmas.Slice.Eq.{bytes_eq-Decides}
 use Rattle.std.proofs.lemmas.Bool.{cases_lt, eq-eqb, eqb-true, true≢false, lt-ltb, le-ltb, cond-true, cond-false}
 use Rattle.tree.specs.declared.element.Element.{Element}
 use Rattle.tree.specs.Tree.{Tree}
 use Rattle.layout.specs.Layout.{element_count, name_count, element_at, elements_of, names_of, name_text, tree_of}
-use Rattle.layout.specs.Lawful.{LawfulSheet, FirstNamed}
+use Rattle.layout.specs.Lawful.{LawfulSheet}
 use Rattle.layout.proofs.Unique.{get_or-names_of}
 use Rattle.sheet.specs.Viewing.{first_in}
 use Rattle.sheet.proofs.Promises.{chains_follow_names}
 use Rattle.pattern.specs.Shape.{Vertex, node_at}
-use Rattle.chain.specs.Chains.{region_of, named, chain_from, chains}
+use Rattle.stream.specs.Regions.{region_of}
+use Rattle.chain.specs.Chains.{named, chain_from, chains}
 use Rattle.chain.specs.Named.{has_name, lists_of}
-use Rattle.chain.proofs.Follow.{ended, from_first}
+use Rattle.chain.proofs.Follow.{from_first_if_any}
 
 same_test : (b c : Bool) → (b ≡ true → c ≡ true) → (c ≡ true → b ≡ true) → b ≡ c
 same_test true c f g = sym (f refl)
@@ -63,22 +63,15 @@ module _ (bs : List ℕ) (law : LawfulSheet bs) (nodes : List Vertex) (i : ℕ) 
   whole : lists_of (tree_of bs) nodes i ≡ map region_of (filter (has_name (tree_of bs) text) (elements_of bs))
   whole = cond-true _ _ _ (lt-ltb i (length nodes) inside) ∙ ap (λ n. map region_of (filter (has_name (tree_of bs) n) (elements_of bs))) (sym is)
 
-  pub no_list : (k : ℕ) → k ≡ element_count bs → ((j : ℕ) → j < name_count bs → name_text bs j ≡ text → ⊥) → map region_of (chain_from bs k) ≡ lists_of (tree_of bs) nodes i
-  no_list k e none = ap (map region_of) (ended bs _ k (omega arith) ∙ sym (none_has bs law text none)) ∙ sym whole
+  pub no_list : ((j : ℕ) → j < name_count bs → name_text bs j ≡ text → ⊥) → [] ≡ lists_of (tree_of bs) nodes i
+  no_list none = sym (ap (map region_of) (none_has bs law text none)) ∙ sym whole
 
-  pub list_found : (j k : ℕ) → j < name_count bs → name_text bs j ≡ text → k ≡ first_in bs j → map region_of (chain_from bs k) ≡ lists_of (tree_of bs) nodes i
-  list_found j k h t e =
-      let first = subst (FirstNamed bs j 0) (sym e) ((chains_follow_names bs law).1 j h).1 in
-      ap (map region_of) (sym (from_first bs j 0 k first) ∙ sym (all_have bs law text j h t)) ∙ sym whole
+  pub list_found : (j : ℕ) → j < name_count bs → name_text bs j ≡ text → map region_of (chain_from bs (first_in bs j)) ≡ lists_of (tree_of bs) nodes i
+  list_found j h t =
+      ap (map region_of) (sym (from_first_if_any bs j 0 (first_in bs j) ((chains_follow_names bs law).1 j h).1) ∙ sym (all_have bs law text j h t)) ∙ sym whole
 
 -- Past position 15 there is no node.
-pub lists_are : (bs heads : List ℕ) (t : Tree) (nodes : List Vertex) → length nodes ≤ 16 → ((k : ℕ) → k < 16 → map region_of (chain_from bs (get_or heads k 0)) ≡ lists_of t nodes k) → chains bs heads ≡ lists_of t nodes
+pub lists_are : (bs : List ℕ) (heads : List (Option ℕ)) (t : Tree) (nodes : List Vertex) → length nodes ≤ 16 → ((k : ℕ) → k < 16 → map region_of (chain_from bs (get_or heads k None)) ≡ lists_of t nodes k) → chains bs heads ≡ lists_of t nodes
 lists_are bs heads t nodes few h = fun_ext (λ j. ⊎_elim
     (λ (l : j < 16). cond-true _ _ _ (lt-ltb j 16 l) ∙ h j l)
     (λ (l : 16 ≤ j). cond-false (ltb j 16) _ _ (le-ltb j 16 l) ∙ sym (cond-false (ltb j (length nodes)) _ _ (le-ltb j (length nodes) (omega arith)))) (cases_lt j 16))
-
--- One number more is found.
-pub one_more : (P : ℕ → ℕ → Type 0) (heads : List ℕ) (i v : ℕ) → i < length heads → P i v → ((k : ℕ) → k < i → P k (get_or heads k 0)) → (k : ℕ) → k < i + 1 → P k (get_or (set heads i v) k 0)
-one_more P heads i v inside p h k l = ⊎_elim
-    (λ (m : k < i). subst (P k) (sym (get_or-set_other heads i k v 0 (λ e. omega arith))) (h k m))
-    (λ (m : i ≤ k). let e : k ≡ i = omega arith in rw e (subst (P i) (sym (get_or-set_same heads i v 0 inside)) p)) (cases_lt k i)

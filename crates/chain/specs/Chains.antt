@@ -1,26 +1,10 @@
 -- The lists of a chain set, by the number of each list's first element.
-use Rattle.std.specs.Prelude.{◌≡◌, ℕ, zero, suc, ◌+◌, ◌-◌, cond, List, [], ◌∷◌, map, filter, nat_eq, nat_lt, slice_index, refl}
-use Rattle.std.proofs.Common.{ap, sym, subst, arith}
-use mathlib.Core.List.Sublistᴰ
-use mathlib.Core.List.{Sublistᴰ}
+use Rattle.std.specs.Prelude.{ℕ, ◌-◌, cond, List, [], map, filter, Some, None, Option, nat_eq, nat_lt, slice_index_or}
 use Rattle.std.specs.List.{range_with_len}
-use Rattle.std.proofs.lemmas.Bool.{cond_both, cond-false, le-ltb}
 use Rattle.tree.specs.declared.element.Element.{Element}
-use Rattle.tree.specs.Region.{LawfulBook}
-use Rattle.tree.specs.Tree as tree
 use Rattle.layout.specs.Layout.{element_count, element_at, elements_of}
-use Rattle.layout.specs.Lawful.{LawfulSheet}
-use Rattle.layout.proofs.Unique.{sheet_shows_a_tree}
-use Rattle.sheet.proofs.Props.{lawful_of}
 use Rattle.stream.specs.declared.region.Region.{Region}
-use Rattle.stream.specs.Sets as sets
-use Rattle.stream.specs.Sets.{Laws}
-use Rattle.stream.specs.Narrowing.{kept_part}
-use Rattle.stream.proofs.Parts.{map_part}
-
--- the region of an element
-abbrev pub region_of : Element → Region
-region_of e = record { start = e.start; «end» = e.«end»; level = e.level }
+use Rattle.stream.specs.Regions.{region_of}
 
 -- all elements' regions
 abbrev pub book_of : List ℕ → List Region
@@ -30,35 +14,11 @@ book_of bs = map region_of (elements_of bs)
 abbrev pub named : List ℕ → ℕ → ℕ → List Element
 named bs n k = filter (λ e. nat_eq e.name n) (map (element_at bs) (range_with_len k (element_count bs - k)))
 
--- the elements from k on with the name of element k
-abbrev pub chain_from : List ℕ → ℕ → List Element
-chain_from bs k = named bs (element_at bs k).name k
+-- the elements from k on with the name of element k, and none where there is no k
+abbrev pub chain_from : List ℕ → Option ℕ → List Element
+chain_from bs None = []
+chain_from bs (Some k) = named bs (element_at bs k).name k
 
 -- list i, where `heads` has the number of each list's first element
-abbrev pub chains : List ℕ → List ℕ → ℕ → List Region
-chains bs heads i = cond (nat_lt i 16) (map region_of (chain_from bs (slice_index heads i))) []
-
--- Such lists are parts of the book.
-
-counting_part : (k a n : ℕ) → Sublistᴰ (range_with_len (a + k) (n - k)) (range_with_len a n)
-counting_part zero a n = let p : a + 0 ≡ a = omega arith in let q : n - 0 ≡ n = omega arith in rw (p, q) (Sublistᴰ.refl _)
-counting_part (suc k) a zero = let z : 0 - suc k ≡ 0 = omega arith in rw z Sublistᴰ.slnil
-counting_part (suc k) a (suc n) = let p : a + suc k ≡ a + 1 + k = omega arith in let q : suc n - suc k ≡ n - k = omega arith in rw (p, q) (Sublistᴰ.cons (counting_part k (a + 1) n))
-
-chain_part : (bs : List ℕ) (k : ℕ) → Sublistᴰ (map region_of (chain_from bs k)) (book_of bs)
-chain_part bs k =
-    let z : 0 + k ≡ k = omega arith in
-    let numbers = subst (λ (m : ℕ). Sublistᴰ (range_with_len m (element_count bs - k)) (range_with_len 0 (element_count bs))) z (counting_part k 0 (element_count bs)) in
-    map_part region_of (Sublistᴰ.trans (kept_part (λ e. nat_eq e.name (element_at bs k).name) _) (map_part (element_at bs) numbers))
-
-map-map : (es : List Element) → map sets.region_of (map region_of es) ≡ map tree.region_of es
-map-map [] = refl
-map-map (e ∷ es) = ap (λ l. tree.region_of e ∷ l) (map-map es)
-
--- A lawful sheet with any such numbers is a stream set.
-pub chain_laws : {T : Type 0} (bytes : T → List ℕ) (heads : T → List ℕ) → ((t : T) → ∥ LawfulSheet (bytes t) ∥₁) → Laws (λ t. book_of (bytes t)) (λ t. chains (bytes t) (heads t))
-chain_laws bytes heads lawful = record {
-  lawful = λ t. subst LawfulBook (sym (map-map (elements_of (bytes t)))) (sheet_shows_a_tree (bytes t) (lawful_of (bytes t) (lawful t))).regions;
-  part = λ t i. cond_both (nat_lt i 16) _ _ (λ xs. Sublistᴰ xs (book_of (bytes t))) (λ _. chain_part (bytes t) (slice_index (heads t) i)) (λ _. Sublistᴰ.nil-sublist _);
-  sixteen = λ t i h. cond-false (nat_lt i 16) _ _ (le-ltb i 16 h);
-}
+abbrev pub chains : List ℕ → List (Option ℕ) → ℕ → List Region
+chains bs heads i = cond (nat_lt i 16) (map region_of (chain_from bs (slice_index_or heads i None))) []

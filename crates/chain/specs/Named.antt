@@ -5,7 +5,7 @@ use Rattle.tree.specs.declared.element.Element.{Element}
 use Rattle.tree.specs.Tree.{Tree}
 use Rattle.pattern.specs.Shape.{Vertex, node_at}
 use Rattle.stream.specs.declared.region.Region.{Region}
-use Rattle.chain.specs.Chains.{region_of}
+use Rattle.stream.specs.Regions.{region_of}
 
 -- the element has these bytes as its name
 abbrev pub has_name : Tree → List ℕ → Element → Bool

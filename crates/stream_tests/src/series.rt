@@ -7,7 +7,7 @@ use std::process::Abort;
 use std::test::Fail;
 use stream::layer::Narrowed;
 use stream::set::{SkippingSet, StreamSet};
-use stream::{Band, Levels, Region, Span, Window, walk};
+use stream::{Band, LevelRange, Levels, Region, Span, Window, walk};
 
 static TEXT: &[u8] = b"<b><p><n/><p><n/></p></p><p></p></b>";
 
@@ -50,27 +50,28 @@ const SECOND_NOTE: Region = Region {
 // The sheet of the book.
 fn sheet_of(rt: &impl Abort, heap: Global) -> Result<Vec<u8>, Fail> {
     let mut bytes = vec![in heap; 0u8; 200]?;
-    let len = match index::index(heap, TEXT, bytes.as_mut_slice()) {
-        Ok(len) => len,
-        Err(_) => 0,
-    };
+    let len = index::index(heap, TEXT, bytes.as_mut_slice()).map_err(|_| Fail::new(
+        "the book is refused",
+    ))?;
     assert!(rt; len == 167);
     bytes.truncate(len);
     Ok(bytes)
 }
 
-// The chain set of the pattern over the sheet. What is refused would show in the lists: they would be those of `<a/>` and `//a`.
-fn chains<'b>(sheet: &'b [u8], text: &[u8]) -> ChainSet<'b> {
+// The chain set of the pattern over the sheet.
+fn chains<'b>(sheet: &'b [u8], text: &[u8]) -> Result<ChainSet<'b>, Fail> {
     let mut view = SheetView::new();
-    let _ = view.open(sheet);
+    view.open(sheet)
+        .map_err(|_| Fail::new("the sheet is refused"))?;
     let mut twig = Twig::new();
-    let _ = twig.read(text);
-    ChainSet::new(view, &twig)
+    twig.read(text)
+        .map_err(|_| Fail::new("the pattern is refused"))?;
+    Ok(ChainSet::new(view, &twig))
 }
 
 // Takes list i away and compares it.
 fn check_list<S: SkippingSet>(rt: &impl Abort, set: &mut S, i: usize, list: &[Region]) {
-    for r in list.iter() {
+    for r in list {
         assert_eq!(rt; set.tell(i), Some(*r));
         assert_eq!(rt; set.tell(i), Some(*r));
         set.advance(i);
@@ -83,12 +84,12 @@ fn check_list<S: SkippingSet>(rt: &impl Abort, set: &mut S, i: usize, list: &[Re
 #[test]
 fn chain_set(rt: HostRuntime) -> Result<(), Fail> {
     let sheet = sheet_of(&rt, rt.alloc())?;
-    let mut set = chains(sheet.as_slice(), b"//p//n");
+    let mut set = chains(sheet.as_slice(), b"//p//n")?;
     check_list(&rt, &mut set, 0, &[OUTER, INNER, LAST]);
     check_list(&rt, &mut set, 1, &[FIRST_NOTE, SECOND_NOTE]);
     check_list(&rt, &mut set, 2, &[]);
     check_list(&rt, &mut set, 16, &[]);
-    let mut set = chains(sheet.as_slice(), b"/b[x]//n");
+    let mut set = chains(sheet.as_slice(), b"/b[x]//n")?;
     check_list(&rt, &mut set, 0, &[TOP]);
     check_list(&rt, &mut set, 1, &[]);
     assert!(rt; walk::count(&mut set, 2) == 2);
@@ -98,7 +99,7 @@ fn chain_set(rt: HostRuntime) -> Result<(), Fail> {
 #[test]
 fn skips(rt: HostRuntime) -> Result<(), Fail> {
     let sheet = sheet_of(&rt, rt.alloc())?;
-    let mut set = chains(sheet.as_slice(), b"//p//n");
+    let mut set = chains(sheet.as_slice(), b"//p//n")?;
     set.skip_beyond(0, 2);
     assert_eq!(rt; set.tell(0), Some(OUTER));
     set.skip_beyond(0, 3);
@@ -110,7 +111,7 @@ fn skips(rt: HostRuntime) -> Result<(), Fail> {
     assert_eq!(rt; set.tell(1), Some(FIRST_NOTE));
     assert!(rt; !set.skip_to_ancestor(1, 8));
     check_list(&rt, &mut set, 1, &[SECOND_NOTE]);
-    let mut set = chains(sheet.as_slice(), b"//p");
+    let mut set = chains(sheet.as_slice(), b"//p")?;
     assert!(rt; set.skip_to_ancestor(0, 13));
     assert_eq!(rt; set.tell(0), Some(OUTER));
     assert!(rt; !set.skip_to_ancestor(0, 3));
@@ -124,17 +125,19 @@ fn skips(rt: HostRuntime) -> Result<(), Fail> {
 fn band(rt: HostRuntime) -> Result<(), Fail> {
     let sheet = sheet_of(&rt, rt.alloc())?;
     let mut rule = Levels {
-        lowest: [1; 16],
-        highest: [1; 16],
+        ranges: [LevelRange {
+            lowest: 1,
+            highest: 1,
+        }; 16],
     };
-    rule.highest[1] = 2;
-    let below = chains(sheet.as_slice(), b"//p//n");
+    rule.ranges[1].highest = 2;
+    let below = chains(sheet.as_slice(), b"//p//n")?;
     let mut set: Band<ChainSet> = Narrowed { below, rule };
     check_list(&rt, &mut set, 1, &[FIRST_NOTE]);
     assert!(rt; !set.skip_to_ancestor(0, 22));
     check_list(&rt, &mut set, 0, &[LAST]);
-    rule.lowest[0] = 2;
-    let below = chains(sheet.as_slice(), b"//p//n");
+    rule.ranges[0].lowest = 2;
+    let below = chains(sheet.as_slice(), b"//p//n")?;
     let mut set: Band<ChainSet> = Narrowed { below, rule };
     check_list(&rt, &mut set, 0, &[]);
     Ok(())
@@ -143,7 +146,7 @@ fn band(rt: HostRuntime) -> Result<(), Fail> {
 #[test]
 fn window_over_a_band(rt: HostRuntime) -> Result<(), Fail> {
     let sheet = sheet_of(&rt, rt.alloc())?;
-    let below = chains(sheet.as_slice(), b"//p//n");
+    let below = chains(sheet.as_slice(), b"//p//n")?;
     let mut set: Window<ChainSet> = Narrowed {
         below,
         rule: Span { start: 4, end: 28 },
@@ -152,10 +155,12 @@ fn window_over_a_band(rt: HostRuntime) -> Result<(), Fail> {
     check_list(&rt, &mut set, 0, &[INNER]);
     check_list(&rt, &mut set, 1, &[FIRST_NOTE, SECOND_NOTE]);
     let below: Band<ChainSet> = Narrowed {
-        below: chains(sheet.as_slice(), b"//p//n"),
+        below: chains(sheet.as_slice(), b"//p//n")?,
         rule: Levels {
-            lowest: [2; 16],
-            highest: [u32::MAX; 16],
+            ranges: [LevelRange {
+                lowest: 2,
+                highest: u32::MAX,
+            }; 16],
         },
     };
     let mut set: Window<Band<ChainSet>> = Narrowed {

@@ -1,10 +1,14 @@
-use Rattle.std.proofs.Common.{Some, sym, refl, ap, ◌∙◌}
+use Rattle.std.proofs.Common.{◌≡◌, length, get_or, Some, None, rules, sym, ap, ◌∙◌}
+use Rattle.std.specs.Option.{option_map}
 use Rattle.sheet.proofs.Props.{lawful_of}
-use Rattle.chain.proofs.Follow.{shown, first_told}
+use Rattle.stream.specs.Regions.{region_of}
+use Rattle.chain.proofs.Follow.{first_told}
 use Rattle.chain.proofs.chain.ChainSetStreamSet.tell.Goals as goal
 
-pub returns-in-Some : goal.returns-in-Some
-returns-in-Some c =
+pub returns-clause-told : goal.returns-clause-told
+returns-clause-told c =
     let self = c.args.self.now in
-    let told = first_told self.view.bytes.now (lawful_of _ self.view.lawful) self.heads c.args.i c.if-i-ge16.false in
-    record { told = ap Some c.region_of.ensures ∙ sym (told ∙ ap shown (sym c.element.ensures ∙ c.in-Some.is)); same = refl; book = refl }
+    let n : length self.heads ≡ 16 = search rules in
+    let head : get_or self.heads c.args.i None ≡ Some c.in_ok-k.k = search rules in
+    let shown : c.map.result ≡ option_map region_of c.element.result = search rules in
+    shown ∙ ap (option_map region_of) c.element.ensures ∙ sym (first_told self.view.bytes.now self.heads n c.args.i (lawful_of _ self.view.lawful) c.in_ok-k.k head)
