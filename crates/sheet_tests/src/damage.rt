@@ -141,11 +141,11 @@ static WRONG_NAMES: [(usize, u8, usize); 8] = [
 ];
 
 fn check_changes(rt: &impl Abort, changes: &[(usize, u8, usize)], refusal: Refusal) {
-    for (at, value, place) in changes {
+    for &(at, value, place) in changes {
         let mut bytes = SHEET;
-        assert!(rt; *at < 135);
-        bytes[*at] = *value;
-        assert_eq!(rt; opened(&bytes), Err(refusal.at(*place)));
+        assert!(rt; at < 135);
+        bytes[at] = value;
+        assert_eq!(rt; opened(&bytes), Err(refusal.at(place)));
     }
 }
 

@@ -12,8 +12,8 @@ fn check_outline(rt: &impl Abort, heap: Global, text: &str, lines: &str) -> Resu
 
 // Texts and their lines.
 fn check_all(rt: &impl Abort, heap: Global, table: &[(&str, &str)]) -> Result<(), Fail> {
-    for (text, lines) in table {
-        check_outline(rt, heap, *text, *lines)?;
+    for &(text, lines) in table {
+        check_outline(rt, heap, text, lines)?;
     }
     Ok(())
 }
