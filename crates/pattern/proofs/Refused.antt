@@ -2,6 +2,7 @@
 use Rattle.std.proofs.Common.{◌≡◌, ℕ, ◌+◌, ◌<◌, ◌≤◌, Bool, true, false, cond, eqb, leb, List, [], ◌∷◌, ◌++◌, map, length, take, Ok, Err, Result, sym, refl, ap, ◌∙◌, subst, add-zero, arith}
 use Rattle.std.proofs.lemmas.List.{append_assoc, append-nil, length-append, length_push}
 use Rattle.std.proofs.lemmas.Bool.{cond-false, lt-leb, leb-false}
+use Rattle.std.proofs.Math.Seq.{take-append_seam}
 use Rattle.markup.specs.declared.fault.Fault.{Fault}
 use Rattle.markup.specs.declared.fault.Refusal.{Refusal}
 use Rattle.markup.specs.declared.fault.Refusal.TheVariants.{Misfit, TooManySteps, PatternNameTooLong, PatternTooLong}
@@ -278,17 +279,13 @@ grants l t w d = sound_in l t w.mark w.nodes (from_derives l t w.mark w.nodes d)
 grants_wider : (l l' : Limits) (t : List ℕ) (w : Shape) → Wider l l' → Derives l t w → run_in l' start 0 t ≡ Ok w
 grants_wider l l' t w wide d = sound_in l' t w.mark w.nodes (derives_wider l l' wide t w.mark w.nodes (from_derives l t w.mark w.nodes d))
 
-take_pre : (xs ys : List ℕ) → take (length xs) (xs ++ ys) ≡ xs
-take_pre [] ys = refl
-take_pre (x ∷ xs) ys = ap (λ z. x ∷ z) (take_pre xs ys)
-
 -- where the text t was refused, at place k
 module _ (t : List ℕ) (r : Refusal) (k : ℕ) (q : Stopped start 0 t r k) where
   size_pre : k ≡ length q.pre
   size_pre = omega (arith, q.number)
 
   take_place : take k t ≡ q.pre
-  take_place = (λ z. take (size_pre z) (q.parts z)) ∙ take_pre q.pre q.post
+  take_place = (λ z. take (size_pre z) (q.parts z)) ∙ take-append_seam q.pre q.post
 
   before_begins : Begins (take k t)
   before_begins =
@@ -307,7 +304,7 @@ module _ (t : List ℕ) (r : Refusal) (k : ℕ) (q : Stopped start 0 t r k) wher
     take_more : take (k + 1) t ≡ q.pre ++ b ∷ []
     take_more =
         let n : k + 1 ≡ length (q.pre ++ b ∷ []) = omega (arith, length_push q.pre b, size_pre) in
-        (λ z. take (n z) (text z)) ∙ take_pre (q.pre ++ b ∷ []) post
+        (λ z. take (n z) (text z)) ∙ take-append_seam (q.pre ++ b ∷ []) post
 
     -- what the byte does within wider limits
     told : (l : Limits) → Wider limits l → AgreeAt l q.state q.state.phase (stop r) (next_in l q.state q.state.phase b)

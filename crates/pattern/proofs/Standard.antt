@@ -1,7 +1,8 @@
 -- The standard form of a derivation, and that the spelling is its text.
 use Rattle.std.proofs.Common.{◌≡◌, ℕ, ◌+◌, ◌*◌, ◌<◌, ◌≤◌, Bool, true, false, eqb, ◌⊎◌, List, [], ◌∷◌, ◌++◌, length, sym, refl, ap, ◌∙◌, subst, inl, inr, ⊎_elim, add-zero, arith, lit≤}
 use Rattle.std.proofs.lemmas.List.{append_assoc, append-nil, length-append}
-use Rattle.std.proofs.lemmas.Bool.{eq-eqb, ne_eqb, or_from, or_parts, or_left, or_right, cond-true, cond-false}
+use Rattle.std.proofs.lemmas.List.Folds.{list_any-append}
+use Rattle.std.proofs.lemmas.Bool.{eq-eqb, ne_eqb, or_from, or_left, or_right, cond-true, cond-false}
 use Rattle.pattern.specs.declared.node.Edge.{Edge}
 use Rattle.pattern.specs.declared.node.Edge.TheVariants.{Child, Descendant}
 use Rattle.markup.specs.Name.{LawfulName}
@@ -111,12 +112,10 @@ text_size limit d n (branch e a t u) w =
 
 -- where a later node hangs on q
 none-append : (q : ℕ) (xs ys : List Vertex) → later q xs ≡ false → later q ys ≡ false → later q (xs ++ ys) ≡ false
-none-append q [] ys p r = r
-none-append q (x ∷ xs) ys p r = let h = or_parts (eqb x.parent q) (later q xs) p in or_from (eqb x.parent q) (later q (xs ++ ys)) h.0 (none-append q xs ys h.1 r)
+none-append q xs ys p r = list_any-append _ xs ys ∙ or_from _ _ p r
 
 some_right : (q : ℕ) (xs ys : List Vertex) → later q ys ≡ true → later q (xs ++ ys) ≡ true
-some_right q [] ys p = p
-some_right q (x ∷ xs) ys p = or_right (eqb x.parent q) (later q (xs ++ ys)) (some_right q xs ys p)
+some_right q xs ys p = list_any-append _ xs ys ∙ or_right _ _ p
 
 first_child : (h n : ℕ) (u : Tail) (vs : List Vertex) → 0 < size u → later h (nodes_of_tail h n u ++ vs) ≡ true
 first_child h n end vs s = absurd (omega (arith, s))

@@ -1,6 +1,6 @@
 -- How the nodes of a twig hang on one another.
 use Rattle.std.specs.Prelude.{◌≡◌, ◌<◌, List, [], ◌∷◌, length, Some, None, IsNone, IsSome, Option}
-use Rattle.std.specs.List.{AllByRecursion as Every, AllByRecursion-prop}
+use Rattle.std.specs.List.{All}
 use Rattle.std.proofs.Math.Bool.{Bool-set}
 use mathlib.Core.HLevel.{Unit-prop, ×_prop}
 use Rattle.pattern.specs.declared.node.Hook.{Hook}
@@ -9,11 +9,11 @@ use Rattle.pattern.specs.declared.node.Node.{Node}
 -- the root hangs on nothing, and every other node on some node
 abbrev pub Hung : List Node → Type 0
 Hung [] = Unit {0}
-Hung (root ∷ others) = IsNone root.hook × Every (λ (n : Node). IsSome n.hook) others
+Hung (root ∷ others) = IsNone root.hook × All (λ (n : Node). IsSome n.hook) others
 
 pub Hung-prop : (nodes : List Node) → IsProp (Hung nodes)
 Hung-prop [] = Unit-prop
-Hung-prop (root ∷ others) = ×_prop (Bool-set _ _) (AllByRecursion-prop _ (λ n. Bool-set _ _) others)
+Hung-prop (root ∷ others) = ×_prop (Bool-set _ _) (λ x y i k d lt. Bool-set _ _ (x k d lt) (y k d lt) i)
 
 -- the next node may hang so: the root on nothing, and every other on a node that there is
 abbrev pub Hangs : Option Hook → List Node → Type 0

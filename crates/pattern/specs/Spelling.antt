@@ -1,5 +1,6 @@
 -- The standard spelling of a twig: each node's last child follows by its edge, and the others stand in brackets.
-use Rattle.std.specs.Prelude.{ℕ, ◌+◌, Bool, true, false, cond, ◌||◌, List, [], ◌∷◌, ◌++◌, ◌==◌}
+use Rattle.std.specs.Prelude.{ℕ, ◌+◌, Bool, true, false, cond, List, [], ◌∷◌, ◌++◌, ◌==◌}
+use Rattle.std.specs.List.{list_any}
 use Rattle.pattern.specs.declared.node.Edge.{Edge}
 use Rattle.pattern.specs.declared.node.Edge.TheVariants.{Child, Descendant}
 use Rattle.pattern.specs.declared.node.Mark.{Mark}
@@ -24,8 +25,7 @@ close_text parent before = cond (parent == before) [] (93 ∷ [])
 
 -- one of these nodes is a child of node p
 abbrev pub later : ℕ → List Vertex → Bool
-later p [] = false
-later p (v ∷ vs) = v.parent == p || later p vs
+later p vs = list_any (λ (v : Vertex). v.parent == p) vs
 
 -- the node v, which follows node k, with vs to come: it stands in brackets if its parent has a later child
 abbrev pub piece : ℕ → Vertex → List Vertex → List ℕ

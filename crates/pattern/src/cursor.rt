@@ -16,8 +16,8 @@ const MOST_BRACKETS: usize = 8;
 // What is left of a text, and the place of its first byte.
 #[derive(Drop)]
 pub(crate) struct Cursor<'a> {
-    left: &'a [u8],
-    at: usize,
+    rest: &'a [u8],
+    place: usize,
 }
 
 impl<'a> Model for Cursor<'a> {
@@ -26,9 +26,9 @@ impl<'a> Model for Cursor<'a> {
 
     ghost Value = { Spot };
 
-    ghost view = { λ a. record { place = a.at; rest = a.left.now } };
+    ghost view = { λ a. record { place = a.place; rest = a.rest.now } };
 
-    ghost invariant = { λ a. a.at + length a.left.now < 2 ^ 63 };
+    ghost invariant = { λ a. a.place + length a.rest.now < 2 ^ 63 };
 }
 
 impl<'a> Cursor<'a> {
@@ -37,24 +37,27 @@ impl<'a> Cursor<'a> {
         ensures rest { result.rest ≡ text.now }
         ensures place { result.place ≡ 0 }
     {
-        Cursor { left: text, at: 0 }
+        Cursor {
+            rest: text,
+            place: 0,
+        }
     }
 
     // The refusal, at the next byte.
     fn refuse(&self, refusal: Refusal) -> Fault
         ensures { result ≡ fault refusal self.now.place }
     {
-        refusal.at(self.at)
+        refusal.at(self.place)
     }
 
     // Passes over `b` if it comes next; whether it does.
     pub(crate) fn accept(&mut self, b: u8) -> bool
         ensures { Accepted b self.old self.new result }
     {
-        match self.left.split_first() {
+        match self.rest.split_first() {
             Some((first, rest)) if *first == b => {
-                self.left = rest;
-                self.at += 1;
+                self.rest = rest;
+                self.place += 1;
                 true
             }
             _ => false,
@@ -122,7 +125,7 @@ impl<'a> Cursor<'a> {
     fn begins_name(&self) -> bool
         ensures { result ≡ begins_name self.now.rest }
     {
-        self.left.first().is_some_and(|b| name::starts_name(*b))
+        self.rest.first().is_some_and(|b| name::starts_name(*b))
     }
 
     // A name, where there may be no room for one.
@@ -135,13 +138,13 @@ impl<'a> Cursor<'a> {
         if is_full {
             return Err(self.refuse(Refusal::TooManySteps));
         }
-        let len = scan::run::<NameBytes>(self.left);
+        let len = scan::run::<NameBytes>(self.rest);
         if len > name::MOST_BYTES {
-            return Err(Refusal::PatternNameTooLong.at(self.at + name::MOST_BYTES));
+            return Err(Refusal::PatternNameTooLong.at(self.place + name::MOST_BYTES));
         }
-        let (name, rest) = self.left.split_at(len);
-        self.left = rest;
-        self.at += len;
+        let (name, rest) = self.rest.split_at(len);
+        self.rest = rest;
+        self.place += len;
         Ok(Name::new(name))
     }
 
@@ -149,7 +152,7 @@ impl<'a> Cursor<'a> {
     pub(crate) fn end(&self) -> Result<(), Fault>
         ensures { Ended self.now result }
     {
-        if !self.left.is_empty() {
+        if !self.rest.is_empty() {
             return Err(self.refuse(Refusal::Misfit));
         }
         Ok(())

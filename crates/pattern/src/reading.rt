@@ -20,8 +20,10 @@ fn parse(text: &[u8]) -> Result<Twig, Fault>
     let mark = reader.cursor.lead()?;
     reader.branch(None, 0)?;
     reader.cursor.end()?;
-    let nodes = reader.nodes;
-    Ok(Twig { mark, nodes })
+    Ok(Twig {
+        mark,
+        nodes: reader.nodes,
+    })
 }
 
 impl Twig {

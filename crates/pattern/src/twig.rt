@@ -1,10 +1,11 @@
-// A twig.
+// Twigs.
 ghost use Rattle.pattern.specs.Shape.{LawfulTwig};
 ghost use Rattle.pattern.specs.Table.{items, vertices};
 
 use super::node::Mark;
 use super::nodes::Nodes;
 
+// No model as a shape: a `Copy` type's view has to give all fields back, also the unused room of the tables.
 #[derive(Clone, Copy)]
 pub struct Twig {
     pub(crate) mark: Mark,

@@ -13,13 +13,13 @@ returns-then-is_full c s e room =
 
 pub returns-then-len-gt-MOST_BYTES : goal.returns-then-len-gt-MOST_BYTES
 returns-then-len-gt-MOST_BYTES c =
-    let b : begins_name c.self.inside.left.now ≡ true = (λ i. begins_name (c.self.view_is i).rest) ∙ sym c.begins_name.ensures ∙ c.if-not-begins_name.false in
+    let b : begins_name c.self.inside.rest.now ≡ true = (λ i. begins_name (c.self.view_is i).rest) ∙ sym c.begins_name.ensures ∙ c.if-not-begins_name.false in
     rw (← c.self.view_is) (λ s e room. name_too_long s e _ _ _ b (room ∙ c.if-is_full.false) (sym c.run-len.ensures.value) c.if-len-gt-MOST_BYTES.true ∙ ap Err (sym c.at.ensures))
 
 pub returns : goal.returns
 returns c =
-    let b : begins_name c.self.inside.left.now ≡ true = (λ i. begins_name (c.self.view_is i).rest) ∙ sym c.begins_name.ensures ∙ c.if-not-begins_name.false in
-    let some = name_some c.self.inside.left.now b in
+    let b : begins_name c.self.inside.rest.now ≡ true = (λ i. begins_name (c.self.view_is i).rest) ∙ sym c.begins_name.ensures ∙ c.if-not-begins_name.false in
+    let some = name_some c.self.inside.rest.now b in
     rw (← c.self.view_is) (
       omega (arith, some, c.run-len.ensures.value, c.run-len.ensures.within, c.split_at.ensures.back_len),
       c.if-is_full.false,
