@@ -206,15 +206,19 @@ module _ (l : Limits) where
   abbrev Completes : Mark → List Vertex → ℕ → List ℕ → Phase → Type 0
   Completes m ns h hs p = (w : List ℕ) × (m' : Mark) × (vs : List Vertex) × ((i : ℕ) → run_in l (at m ns h hs p) i w ≡ granted m' vs)
 
+  -- a name begins with `a`
+  begun : (m : Mark) (ns : List Vertex) (h : ℕ) (hs : List ℕ) (e : Edge) → length ns < l.names → (i : ℕ) → feed i (begin_in l (at m ns h hs step) e 97) (λ u. run_in l u (i + 1) (closers hs)) ≡ granted m (ns ++ node (97 ∷ []) h e ∷ [])
+  begun m ns h hs e few i = ap (λ y. feed i y (λ u. run_in l u (i + 1) (closers hs))) (cond-false _ _ _ (lt-leb _ _ few)) ∙ named m ns h hs e (97 ∷ []) (i + 1)
+
   completes : (p : Phase) (m : Mark) (ns : List Vertex) (h : ℕ) (hs : List ℕ) → length ns < l.names → Completes m ns h hs p
   unfolding run_in
-  completes nothing m ns h hs few = (47 ∷ 97 ∷ closers hs, Top, ns ++ node (97 ∷ []) h Child ∷ [], λ i. ap (λ y. feed (i + 1) y (λ u. run_in l u (i + 1 + 1) (closers hs))) (cond-false _ _ _ (lt-leb _ _ few)) ∙ named Top ns h hs Child (97 ∷ []) (i + 1 + 1))
-  completes lead m ns h hs few = (97 ∷ closers hs, Top, ns ++ node (97 ∷ []) h Child ∷ [], λ i. ap (λ y. feed i y (λ u. run_in l u (i + 1) (closers hs))) (cond-false _ _ _ (lt-leb _ _ few)) ∙ named Top ns h hs Child (97 ∷ []) (i + 1))
-  completes (edge e) m ns h hs few = (97 ∷ closers hs, m, ns ++ node (97 ∷ []) h e ∷ [], λ i. ap (λ y. feed i y (λ u. run_in l u (i + 1) (closers hs))) (cond-false _ _ _ (lt-leb _ _ few)) ∙ named m ns h hs e (97 ∷ []) (i + 1))
-  completes slash m ns h hs few = (97 ∷ closers hs, m, ns ++ node (97 ∷ []) h Child ∷ [], λ i. ap (λ y. feed i y (λ u. run_in l u (i + 1) (closers hs))) (cond-false _ _ _ (lt-leb _ _ few)) ∙ named m ns h hs Child (97 ∷ []) (i + 1))
-  completes bracket m ns h hs few = (97 ∷ closers hs, m, ns ++ node (97 ∷ []) h Child ∷ [], λ i. ap (λ y. feed i y (λ u. run_in l u (i + 1) (closers hs))) (cond-false _ _ _ (lt-leb _ _ few)) ∙ named m ns h hs Child (97 ∷ []) (i + 1))
-  completes dot m ns h hs few = (47 ∷ 47 ∷ 97 ∷ closers hs, m, ns ++ node (97 ∷ []) h Descendant ∷ [], λ i. ap (λ y. feed (i + 1 + 1) y (λ u. run_in l u (i + 1 + 1 + 1) (closers hs))) (cond-false _ _ _ (lt-leb _ _ few)) ∙ named m ns h hs Descendant (97 ∷ []) (i + 1 + 1 + 1))
-  completes dot_slash m ns h hs few = (47 ∷ 97 ∷ closers hs, m, ns ++ node (97 ∷ []) h Descendant ∷ [], λ i. ap (λ y. feed (i + 1) y (λ u. run_in l u (i + 1 + 1) (closers hs))) (cond-false _ _ _ (lt-leb _ _ few)) ∙ named m ns h hs Descendant (97 ∷ []) (i + 1 + 1))
+  completes nothing m ns h hs few = (47 ∷ 97 ∷ closers hs, Top, ns ++ node (97 ∷ []) h Child ∷ [], λ i. begun Top ns h hs Child few (i + 1))
+  completes lead m ns h hs few = (97 ∷ closers hs, Top, ns ++ node (97 ∷ []) h Child ∷ [], begun Top ns h hs Child few)
+  completes (edge e) m ns h hs few = (97 ∷ closers hs, m, ns ++ node (97 ∷ []) h e ∷ [], begun m ns h hs e few)
+  completes slash m ns h hs few = (97 ∷ closers hs, m, ns ++ node (97 ∷ []) h Child ∷ [], begun m ns h hs Child few)
+  completes bracket m ns h hs few = (97 ∷ closers hs, m, ns ++ node (97 ∷ []) h Child ∷ [], begun m ns h hs Child few)
+  completes dot m ns h hs few = (47 ∷ 47 ∷ 97 ∷ closers hs, m, ns ++ node (97 ∷ []) h Descendant ∷ [], λ i. begun m ns h hs Descendant few (i + 1 + 1))
+  completes dot_slash m ns h hs few = (47 ∷ 97 ∷ closers hs, m, ns ++ node (97 ∷ []) h Descendant ∷ [], λ i. begun m ns h hs Descendant few (i + 1))
   completes (inside e a) m ns h hs few = (closers hs, m, ns ++ node a h e ∷ [], λ i. named m ns h hs e a i)
   completes step m ns h hs few = (closers hs, m, ns, λ i. closed m ns h hs i)
 

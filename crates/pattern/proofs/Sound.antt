@@ -97,11 +97,12 @@ module _ (l : Limits) where
       subst (λ x. Goes (at m ns p hs (inside e n)) (c ∷ cs) (at m ns p hs (inside e x))) (append_assoc n (c ∷ []) cs)
       (join _ (at m ns p hs (inside e (n ++ c ∷ []))) _ (c ∷ []) cs (byte _ _ c (cond-true _ _ _ a.0 ∙ cond-false _ _ _ (lt-leb l.bytes _ size))) (more_name m ns p hs e (n ++ c ∷ []) cs a.1 size'))
 
-  whole_name : (m : Mark) (ns : List Vertex) (p : ℕ) (hs : List ℕ) (b : Bool) (e : Edge) (n : List ℕ) → NameWithin l.bytes n → length ns < l.names → Goes (at m ns p hs (after_open m ns b e)) n (at m ns p hs (inside e n))
-  whole_name m ns p hs b e [] ok few = absurd (omega (arith, ok.some))
-  whole_name m ns p hs b e (c ∷ cs) ok few =
+  name_after : (s : State) (m : Mark) (ns : List Vertex) (p : ℕ) (hs : List ℕ) (e : Edge) (n : List ℕ)
+      → ((c : ℕ) → name_first c ≡ true → Goes s (c ∷ []) (at m ns p hs (inside e (c ∷ [])))) → NameWithin l.bytes n → Goes s n (at m ns p hs (inside e n))
+  name_after s m ns p hs e [] begin ok = absurd (omega (arith, ok.some))
+  name_after s m ns p hs e (c ∷ cs) begin ok =
       let size : length (c ∷ []) + length cs ≤ l.bytes = omega (arith, ok.short) in
-      join _ (at m ns p hs (inside e (c ∷ []))) _ (c ∷ []) cs (first m ns p hs b e c ok.first few) (more_name m ns p hs e (c ∷ []) cs ok.each.1 size)
+      join _ (at m ns p hs (inside e (c ∷ []))) _ (c ∷ []) cs (begin c ok.first) (more_name m ns p hs e (c ∷ []) cs ok.each.1 size)
 
   settles : (s : State) (e : Edge) (n w : List ℕ) (i : ℕ) → HeadOk w → run_in l (at s.mark s.nodes s.holder s.brackets (inside e n)) i w ≡ run_in l (settle s e n) i w
   unfolding run_in
@@ -117,7 +118,7 @@ module _ (l : Limits) where
       → length ns ≡ n → n < l.names → NameWithin l.bytes a → HeadOk w
       → (j : ℕ) × (run_in l (at m ns h hs (after_open m ns b e)) i (a ++ w) ≡ run_in l (at m (ns ++ node a h e ∷ []) n hs step) j w)
   named b e a m ns n h hs i w s few ok hw =
-      let g = (whole_name m ns h hs b e a ok (omega arith)).on i w in
+      let g = (name_after _ m ns h hs e a (λ c f. first m ns h hs b e c f (omega arith)) ok).on i w in
       (g.0, g.1 ∙ settles (at m ns h hs step) e a w g.0 hw ∙ (λ z. run_in l (at m (ns ++ node a h e ∷ []) (s z) hs step) g.0 w))
 
   runs : (t : Tail) (m : Mark) (ns : List Vertex) (n h : ℕ) (hs : List ℕ) (i : ℕ) (more : List ℕ)
@@ -169,18 +170,12 @@ module _ (l : Limits) where
   root_first Top c h one = byte _ _ c (cond-false _ _ _ (apart Top [] c 47 h refl) ∙ cond-true _ _ _ h ∙ cond-false _ _ _ (lt-leb l.names 0 one))
   root_first Any c h one = byte _ _ c (cond-true _ _ _ h ∙ cond-false _ _ _ (lt-leb l.names 0 one))
 
-  root_name : (m : Mark) (n : List ℕ) → NameWithin l.bytes n → 0 < l.names → Goes (after_lead m) n (at m [] 0 [] (inside Child n))
-  root_name m [] ok one = absurd (omega (arith, ok.some))
-  root_name m (c ∷ cs) ok one =
-      let size : length (c ∷ []) + length cs ≤ l.bytes = omega (arith, ok.short) in
-      join _ (at m [] 0 [] (inside Child (c ∷ []))) _ (c ∷ []) cs (root_first m c ok.first one) (more_name m [] 0 [] Child (c ∷ []) cs ok.each.1 size)
-
   pub sound_in : (t : List ℕ) (m : Mark) (vs : List Vertex) → DerivesTail l t m vs → run_in l start 0 t ≡ granted m vs
   unfolding run_in
   sound_in t m vs d =
       let w = text_of d.tail in
       let g = (leads m).on 0 (d.name ++ w) in
-      let r = (root_name m d.name d.lawful d.one).on g.0 w in
+      let r = (name_after _ m [] 0 [] Child d.name (λ c f. root_first m c f d.one) d.lawful).on g.0 w in
       let v = node d.name 0 Child in
       let q = runs d.tail m (v ∷ []) 1 0 [] r.0 [] refl tt d.within in
       ap (run_in l start 0) d.text
