@@ -1,5 +1,8 @@
 pub mod Props
 pub mod Sizes
+pub mod Words
+pub mod Headers
+pub mod Viewed
 pub mod Parts
 pub mod Fields
 pub mod Stacks

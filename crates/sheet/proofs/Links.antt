@@ -1,15 +1,15 @@
 -- The pass from the back over the elements' next numbers.
-use Rattle.std.proofs.Common.{◌≡◌, ℕ, ◌+◌, ◌<◌, ◌≤◌, ◌≢◌, List, length, get_or, set, replicate, sym, ap, ◌∙◌, subst, ⊎_elim, arith}
+use Rattle.std.proofs.Common.{◌≡◌, ℕ, ◌+◌, ◌<◌, ◌≤◌, ◌≢◌, List, Option, Some, None, Bool, not, eqb, IfSome, MatchBool, length, get_or, set, replicate, sym, ◌∙◌, subst, ⊎_elim, arith}
 use Rattle.std.proofs.lemmas.List.{get_or-set_same, get_or-set_other, get_or-replicate}
-use Rattle.std.proofs.lemmas.Bool.{cases_eq}
-use Rattle.layout.specs.Layout.{element_count, element_at, next_at}
-use Rattle.layout.specs.Lawful.{FirstFrom, FirstNamed}
+use Rattle.std.proofs.lemmas.Bool.{cases_eq, eq-eqb, ne_eqb}
+use Rattle.std.specs.Option.{option_eq}
+use Rattle.layout.specs.Layout.{element_count, name_count, element_at, next_at}
+use Rattle.layout.specs.Lawful.{FirstFrom, FirstNamed, RightNumbers, used}
 use Rattle.layout.proofs.Firsts.{first_unique, first_none, first_yes, first_no}
-use Rattle.sheet.specs.Links.{RightNext, LinkedFrom, Firsts}
+use Rattle.sheet.specs.Links.{RightNext, RightLink, LinkedFrom, Firsts}
 
-pub linked_none : (bs : List ℕ) (m : ℕ) → m ≡ element_count bs → LinkedFrom bs m m
-linked_none bs m e = record
-    { from = omega arith; within = omega arith; before = λ k p q. absurd (omega arith); here = λ h. absurd (omega arith) }
+pub linked_none : (bs : List ℕ) (m : ℕ) → m ≡ element_count bs → LinkedFrom bs m None
+linked_none bs m e = λ k h l. absurd (omega arith)
 
 pub firsts_none : (bs : List ℕ) (m : ℕ) → m ≡ element_count bs → Firsts bs m (replicate 1024 m)
 firsts_none bs m e n h =
@@ -38,32 +38,39 @@ module _ (bs : List ℕ) (k m x : ℕ) (h : k < element_count bs) (next : m ≡ 
       subst (λ (n : ℕ). FirstNamed bs n (k + 1) (get_or table x 0)) is
       (subst (λ (n : ℕ). FirstNamed bs x n (get_or table x 0)) next (f x small))
 
-  pub linked_other : (w : ℕ) → 1024 ≤ x → LinkedFrom bs m w → LinkedFrom bs k w
-  linked_other w big a = record {
-    from = omega (arith, a.from);
+  right_more : ((element_at bs k).name < 1024 → RightNext bs k) → (i : ℕ) → RightLink bs m i → RightLink bs k i
+  right_more n i a l s = ⊎_elim (λ (e : i ≡ k). rw e (n (rw (← e) s))) (λ (ne : i ≡ k → ⊥). a (omega arith) s) (cases_eq i k)
+
+  linked_more : (w : Option ℕ) → ((element_at bs k).name < 1024 → RightNext bs k) → LinkedFrom bs m w → LinkedFrom bs k w
+  linked_more None n a = λ i l. right_more n i (a i l)
+  linked_more (Some w) n a = record {
     within = a.within;
-    before = λ i p q r.
-        ⊎_elim (λ (e : i ≡ k). absurd (let z = ap (λ (j : ℕ). (element_at bs j).name) e in omega arith)) (λ (ne : i ≡ k → ⊥). a.before i (omega arith) q r) (cases_eq i k);
-    here = a.here;
+    before = λ i l. right_more n i (a.before i l);
+    here = λ r. a.here (λ l s. r (omega arith) s);
   }
 
-  pub linked_right : (w v : ℕ) → x < 1024 → v ≡ next_at bs k → v ≡ get_or table x 0 → LinkedFrom bs m w → LinkedFrom bs k w
+  pub linked_other : (w : Option ℕ) → 1024 ≤ x → LinkedFrom bs m w → LinkedFrom bs k w
+  linked_other w big a = linked_more w (λ s. absurd (omega arith)) a
+
+  pub linked_right : (w : Option ℕ) (v : ℕ) → x < 1024 → v ≡ next_at bs k → v ≡ get_or table x 0 → LinkedFrom bs m w → LinkedFrom bs k w
   linked_right w v small p q a =
-      let n : RightNext bs k = subst (λ (j : ℕ). FirstNamed bs (element_at bs k).name (k + 1) j) (sym q ∙ p) (nearest small) in
-      record {
-        from = omega (arith, a.from);
-        within = a.within;
-        before = λ i s t r.
-            ⊎_elim (λ (e : i ≡ k). rw e n) (λ (ne : i ≡ k → ⊥). a.before i (omega arith) t r) (cases_eq i k);
-        here = a.here;
-      }
+      linked_more w (λ _. subst (λ (j : ℕ). FirstNamed bs (element_at bs k).name (k + 1) j) (sym q ∙ p) (nearest small)) a
 
-  pub linked_wrong : (w v : ℕ) → x < 1024 → v ≡ next_at bs k → (v ≡ get_or table x 0 → ⊥) → LinkedFrom bs k k
-  linked_wrong w v small p q = record {
-    from = omega arith;
-    within = omega arith;
-    before = λ i s t. absurd (omega arith);
-    here = λ _ n.
+  pub linked_wrong : (v : ℕ) → x < 1024 → v ≡ next_at bs k → (v ≡ get_or table x 0 → ⊥) → LinkedFrom bs k (Some k)
+  linked_wrong v small p q = record {
+    within = h;
+    before = λ i l s. absurd (omega arith);
+    here = λ r.
         q (p ∙ first_unique (λ i. (element_at bs i).name) (element_count bs) (element_at bs k).name (k + 1) (next_at bs k) (get_or table x 0)
-        n (nearest small));
+        (r (omega arith) (omega arith)) (nearest small));
   }
+
+-- the numbers of element k, where its name number is right, and wrong is the lowest element whose next is wrong
+pub right_numbers : (bs : List ℕ) (k : ℕ) (wrong : Option ℕ) (r : Bool) → r ≡ not (option_eq eqb wrong (Some k)) → LinkedFrom bs 0 wrong → IfSome wrong (λ w. k ≤ w)
+    → k < element_count bs → (element_at bs k).name < 1024 → (element_at bs k).name < name_count bs → (element_at bs k).name ≤ used bs k
+    → MatchBool r (RightNumbers bs k × IfSome wrong (λ w. k < w)) (RightNumbers bs k → ⊥)
+right_numbers bs k None r e a b h small named fresh = rw e (record { named = named; fresh = fresh; next = a k h (omega arith) small }, tt)
+right_numbers bs k (Some w) r e a b h small named fresh =
+    ⊎_elim (λ (p : w ≡ k). rw (e, eq-eqb w k p) (λ n. a.here (λ _ _. subst (RightNext bs) (sym p) n.next)))
+    (λ (p : w ≡ k → ⊥). rw (e, ne_eqb w k p) (record { named = named; fresh = fresh; next = a.before k (omega arith) (omega arith) small }, omega arith))
+    (cases_eq w k)

@@ -1,12 +1,14 @@
--- That bytes are a lawful sheet has at most one proof, so the fact comes out of its truncation.
-use Rattle.std.proofs.Common.{◌≡◌, ℕ, zero, suc, ◌+◌, ◌<◌, ◌≤◌, true, List, [], ◌∷◌, get_or}
+-- That bytes are a lawful sheet, or have a right header and length, has at most one proof, so the fact comes out of its truncation.
+use Rattle.std.proofs.Common.{◌≡◌, ℕ, zero, suc, ◌+◌, ◌<◌, ◌≤◌, true, List, [], ◌∷◌, length, get_or}
 use Rattle.std.proofs.Math.Logic.{∥∥₁_elim}
 use denote.Struct.Props.{props}
 use Rattle.std.specs.List.{AllByRecursion as Every}
 use Rattle.markup.specs.Name.{name_first, name_byte, LawfulName}
 use Rattle.tree.specs.Region.{Region, Contains, Fits}
 use Rattle.layout.specs.Layout.{element_count, name_count, element_at, region_at, next_at, name_at, name_text}
-use Rattle.layout.specs.Lawful.{RightField, RightHeader, FirstFrom, RightNumbers, RightElement, RightName, LawfulSheet}
+use Rattle.layout.specs.Lawful.{RightField, RightHeader, FirstFrom, FirstNamed, RightNumbers, RightElement, RightName, LawfulSheet}
+use Rattle.sheet.specs.Opening.{Sized}
+use Rattle.sheet.specs.Links.{CheckedNames, key_of}
 
 lt_prop : (m n : ℕ) → IsProp (m < n)
 lt_prop m n = hlevel props
@@ -109,3 +111,25 @@ lawful_prop bs a b =
 
 pub lawful_of : (bs : List ℕ) → ∥ LawfulSheet bs ∥₁ → LawfulSheet bs
 lawful_of bs h = ∥∥₁_elim h (lawful_prop bs) (λ l. l)
+
+sized_prop : (bs : List ℕ) → IsProp (Sized bs)
+sized_prop bs = hlevel (props, field_prop)
+
+pub sized_of : (bs : List ℕ) → ∥ Sized bs ∥₁ → Sized bs
+sized_of bs h = ∥∥₁_elim h (sized_prop bs) (λ s. s)
+
+checked_prop : (bs first keys : List ℕ) (end : ℕ) → IsProp (CheckedNames bs first keys end)
+checked_prop bs first keys end a b =
+    let firsts : IsProp ((n : ℕ) → n < 1024 → FirstNamed bs n 0 (get_or first n 0)) = hlevel (props, first_prop) in
+    let right : IsProp ((j : ℕ) → j < length keys → RightName bs j) = hlevel (props, name_prop) in
+    let keyed : IsProp ((j : ℕ) → j < length keys → get_or keys j 0 ≡ key_of (name_text bs j)) = hlevel props in
+    λ i. record {
+      firsts = firsts a.firsts b.firsts i;
+      few = le_prop _ _ a.few b.few i;
+      right = right a.right b.right i;
+      keyed = keyed a.keyed b.keyed i;
+      ends = eq_prop _ _ a.ends b.ends i;
+    }
+
+pub checked_of : (bs first keys : List ℕ) (end : ℕ) → ∥ CheckedNames bs first keys end ∥₁ → CheckedNames bs first keys end
+checked_of bs first keys end h = ∥∥₁_elim h (checked_prop bs first keys end) (λ c. c)

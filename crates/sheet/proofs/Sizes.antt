@@ -1,7 +1,7 @@
 -- How long a sheet with a right header is, and where its names stand.
-use Rattle.std.proofs.Common.{◌≡◌, ℕ, ◌+◌, ◌-◌, ◌<◌, ◌≤◌, List, length, take, drop, arith, lit<}
+use Rattle.std.proofs.Common.{◌≡◌, ℕ, ◌+◌, ◌-◌, ◌*◌, ◌<◌, ◌≤◌, List, length, take, drop, arith, lit<}
 use Rattle.layout.specs.declared.record.NameRecord.{NameRecord}
-use Rattle.layout.specs.Layout.{u32_at, name_count, byte_count, bytes_offset, name_at, name_text}
+use Rattle.layout.specs.Layout.{u32_at, element_count, name_count, byte_count, bytes_offset, name_at, name_text}
 use Rattle.layout.specs.Lawful.{LawfulSheet}
 use Rattle.sheet.specs.Opening.{Sized}
 use Rattle.sheet.proofs.Props.{lawful_of}
@@ -11,6 +11,9 @@ sized_length bs h = h.1
 
 pub sized_texts : (bs : List ℕ) → Sized bs → u32_at bs 20 ≡ bytes_offset bs
 sized_texts bs h = h.0 5 (lit< tt)
+
+pub sized_name_table : (bs : List ℕ) → Sized bs → u32_at bs 16 ≡ 32 + 16 * element_count bs
+sized_name_table bs h = h.0 4 (lit< tt)
 
 pub sized_names : (bs : List ℕ) → Sized bs → name_count bs ≤ 1024
 sized_names bs h = (h.0 2 (lit< tt)).1

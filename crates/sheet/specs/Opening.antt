@@ -3,6 +3,7 @@ use Rattle.std.specs.Prelude.{◌≡◌, ℕ, ◌+◌, ◌*◌, ◌<◌, ◌≤�
 use Rattle.markup.specs.declared.fault.Fault.{Fault}
 use Rattle.markup.specs.declared.fault.Refusal.TheVariants.{SheetLength, HeaderField, ElementRecord, NameRecord}
 use Rattle.markup.specs.Faults.{fault}
+use Rattle.sheet.specs.declared.header.Header.{Header}
 use Rattle.layout.specs.Layout.{u32_at, element_count, name_count, byte_count, element_offset, name_offset, bytes_offset}
 use Rattle.layout.specs.Lawful.{RightField, RightHeader, RightElement, RightName, names_end, LawfulSheet}
 
@@ -15,6 +16,19 @@ pub record FirstWrong (P : ℕ → Type 0) (n i : ℕ) : Type 0 where
 -- every place below n has P
 abbrev pub Each : (ℕ → Type 0) → ℕ → Type 0
 Each P n = (i : ℕ) → i < n → P i
+
+-- the header's fields
+abbrev pub header_at : List ℕ → Header
+header_at bs = record {
+  version = u32_at bs 0;
+  elements = element_count bs;
+  names = name_count bs;
+  element_table = u32_at bs 12;
+  name_table = u32_at bs 16;
+  texts = u32_at bs 20;
+  name_bytes = byte_count bs;
+  total = u32_at bs 28;
+}
 
 -- the header is right, and the length is the total that it tells
 abbrev pub Sized : List ℕ → Type 0

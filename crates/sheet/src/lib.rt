@@ -4,10 +4,12 @@
 mod check;
 mod elements;
 mod encoder;
+mod header;
 pub mod laws;
 mod limits;
 mod names;
 mod read;
+mod records;
 mod view;
 mod write;
 

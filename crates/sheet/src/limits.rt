@@ -1,9 +1,2 @@
-// The limits of a sheet.
-
-pub const MOST_ELEMENTS: usize = 65_535;
-
-pub const MOST_NAMES: usize = 1_024;
-// Levels are 0 to 63.
-pub const MOST_LEVELS: usize = 64;
-// The highest end of an element.
-pub const LAST_END: u32 = 16_777_215;
+// The limits of a sheet are those of a book.
+pub use tree::limits::{LAST_END, MOST_ELEMENTS, MOST_LEVELS, MOST_NAMES};

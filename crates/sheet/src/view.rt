@@ -6,7 +6,8 @@ ghost use Rattle.layout.specs.Encoding.{sheet_of};
 ghost use Rattle.sheet.specs.Opening.{Opened};
 ghost use Rattle.sheet.specs.Viewing.{first_tree, element_in, next_in, first_in, NameIn, Found};
 
-use crate::{check, read};
+use crate::check;
+use crate::records::Records;
 use markup::Fault;
 use tree::Element;
 
@@ -44,26 +45,33 @@ impl<'b> SheetView<'b> {
         Ok(())
     }
 
+    fn records(&self) -> Records<'b>
+        ensures { result.bytes.now ≡ self.now.bytes.now }
+    {
+        Records { bytes: self.bytes }
+    }
+
     // How many elements there are.
     pub fn element_count(&self) -> u32
         ensures { result ≡ element_count self.now.bytes.now }
     {
-        read::read_u32(self.bytes, 4)
+        self.records().header().elements
     }
 
     // How many names there are.
     pub fn name_count(&self) -> u32
         ensures { result ≡ name_count self.now.bytes.now }
     {
-        read::read_u32(self.bytes, 8)
+        self.records().header().names
     }
 
     // Element k.
     pub fn element(&self, k: u32) -> Option<Element>
         ensures { result ≡ element_in self.now.bytes.now k }
     {
+        // Not by `then`: nothing is known of what its closure gives.
         if k < self.element_count() {
-            Some(read::read_element(self.bytes, k))
+            Some(self.records().element(k))
         } else {
             None
         }
@@ -77,7 +85,7 @@ impl<'b> SheetView<'b> {
         if k >= count {
             return None;
         }
-        let next = read::read_next(self.bytes, k);
+        let next = self.records().next(k);
         (next < count).then_some(next)
     }
 
@@ -88,7 +96,7 @@ impl<'b> SheetView<'b> {
         if j >= self.name_count() {
             return None;
         }
-        Some(read::read_text(self.bytes, j))
+        Some(self.records().text(j))
     }
 
     // The number of the first element with name j, if there is such a name.
@@ -96,7 +104,7 @@ impl<'b> SheetView<'b> {
         ensures { result ≡ first_in self.now.bytes.now j }
     {
         if j < self.name_count() {
-            Some(read::read_name(self.bytes, j).first)
+            Some(self.records().name(j).first)
         } else {
             None
         }
@@ -106,11 +114,7 @@ impl<'b> SheetView<'b> {
     pub fn find(&self, text: &[u8]) -> Option<u32>
         ensures { Found self.now.bytes.now text.now result }
     {
-        for j in 0..self.name_count() {
-            if read::read_text(self.bytes, j) == text {
-                return Some(j);
-            }
-        }
-        None
+        let records = self.records();
+        (0..self.name_count()).find(|j| records.text(*j) == text)
     }
 }

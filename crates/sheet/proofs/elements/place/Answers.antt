@@ -1,38 +1,32 @@
-use Rattle.std.proofs.Common.{◌≡◌, ℕ, ◌-◌, ◌<◌, ◌≤◌, List, get_or, ap, subst, arith, rules}
+use Rattle.std.proofs.Common.{◌≡◌, ◌+◌, ◌-◌, ◌<◌, length, get_or, ap, subst, sym, arith, rules}
+use Rattle.std.proofs.lemmas.Grind.{common_steps}
+use Rattle.tree.specs.Region.{Fits}
 use Rattle.tree.specs.declared.element.Element.{Element}
-use Rattle.layout.specs.Layout.{element_at, region_at}
-use Rattle.sheet.specs.Stack.{Stack}
-use Rattle.sheet.proofs.Stacks.{right_depth, right_region}
+use Rattle.layout.specs.Layout.{region_at}
+use Rattle.sheet.specs.Stack.{Stack, last_start}
+use Rattle.sheet.proofs.Stacks.{right_depth, right_region, pushed}
 use Rattle.sheet.proofs.elements.place.Goals as goal
-
--- what is known of the open elements at element k's start
-at-start : (bs stack : List ℕ) (k d : ℕ) (e : Element) → e ≡ element_at bs k → Stack (region_at bs) k e.start stack d
-    → Stack (region_at bs) k (region_at bs k).start stack d
-at-start bs stack k d e p s = subst (λ (x : Element). Stack (region_at bs) k x.start stack d) p s
+use Rattle.sheet.proofs.elements.place.Goals.{in_default-via-in-None-1, in_default-via-in-Some+else-element-e}
 
 pub returns-then-depth-e : goal.returns-then-depth-e
 returns-then-depth-e c ok =
-    let bs = c.args.bytes.now in
-    let st = c.args.stack.now in
-    let k = c.args.k in
-    let d = c.close-depth.result in
-    let p = c.read_element-e.ensures in
-    let s = at-start bs st k d c.read_element-e.result p c.close-depth.ensures.opened in
-    let t : 0 < d → (region_at bs k).start ≤ (region_at bs (get_or st (d - 1) 0)).end = λ h. omega (arith, c.close-depth.ensures.top h, ap (λ (x : Element). x.start) p) in
-    let q = right_depth (region_at bs) k st d c.requires.before s t ok in
+    let bs = c.args.records.now.bytes.now in
+    let st = c.close.new.stack.items in
+    let level = ap (λ (x : Element). x.level) c.element-e.ensures in
+    let q = right_depth (region_at bs) c.args.k st c.requires.before c.close.ensures.opened c.close.ensures.top ok in
     search rules
 
-pub returns : goal.returns
-returns c =
-    let bs = c.args.bytes.now in
-    let st = c.args.stack.now in
+pub returns-2 : goal.returns-2
+returns-2 c =
+    let bs = c.args.records.now.bytes.now in
     let k = c.args.k in
-    let d = c.close-depth.result in
-    let p = c.read_element-e.ensures in
-    let s = at-start bs st k d c.read_element-e.result p c.close-depth.ensures.opened in
-    let t : 0 < d → (region_at bs k).start ≤ (region_at bs (get_or st (d - 1) 0)).end = λ h. omega (arith, c.close-depth.ensures.top h, ap (λ (x : Element). x.start) p) in
+    let st = c.close.new.stack.items in
+    let e = c.element-e.ensures in
+    let level = ap (λ (x : Element). x.level) e in
     let up : 0 < k → (region_at bs (k - 1)).start < (region_at bs k).start = search rules in
-    let only : d ≡ 0 → k ≡ 0 = search rules in
-    let inside : 0 < d → (region_at bs k).end < (region_at bs (get_or st (d - 1) 0)).end = search rules in
-    let is : d ≡ (region_at bs k).level = search rules in
-    (right_region (region_at bs) k st d c.requires.before s t (search rules) (search rules) (search rules) up is only inside, is, s, inside)
+    let only : length st ≡ 0 → k ≡ 0 = search rules in
+    let inside : 0 < length st → (region_at bs k).end < (region_at bs (get_or st (length st - 1) 0)).end = grind (arith, common_steps) in
+    let is : length st ≡ (region_at bs k).level = search rules in
+    let fits : Fits (region_at bs) k = right_region (region_at bs) k st c.requires.before c.close.ensures.opened c.close.ensures.top (search rules) (search rules) (search rules) up is only inside in
+    let opened = pushed (region_at bs) k st (omega arith) is only inside c.close.ensures.opened in
+    (fits, subst (Stack (region_at bs) (k + 1) (last_start (region_at bs) (k + 1))) (sym c.push.ensures.items) opened)

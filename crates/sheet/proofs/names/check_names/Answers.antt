@@ -1,37 +1,55 @@
-use Rattle.std.proofs.Common.{◌≢◌, ap, ◌∙◌, add-one, arith, lit<, below_more}
-use Rattle.layout.specs.declared.record.NameRecord.{NameRecord}
-use Rattle.std.proofs.lemmas.List.{length-set, get_or-set_same, get_or-set_other}
-use Rattle.sheet.specs.Links.{key_of}
+use Rattle.std.proofs.Common.{◌≡◌, ℕ, ◌+◌, ◌*◌, List, length, sym, ap, ◌∙◌, subst, inl, inr, arith}
+use Rattle.markup.specs.declared.fault.Refusal.TheVariants.{NameRecord}
+use Rattle.markup.specs.Faults.{fault}
+use Rattle.layout.specs.Layout.{name_offset, bytes_offset}
+use Rattle.layout.specs.Lawful.{RightName}
+use Rattle.sheet.specs.declared.header.Header.{Header}
+use Rattle.sheet.proofs.Props.{sized_of, checked_of}
+use Rattle.sheet.proofs.Sizes.{sized_name_table}
+use Rattle.sheet.proofs.Naming.{all_checked}
 use Rattle.sheet.proofs.names.check_names.Goals as goal
 
-pub overflow_add-end : goal.overflow_add-end
-overflow_add-end c =
-    let n = c.if-not-is_right_name.ensures in
-    let l = ap (λ (x : NameRecord). x.length) c.read_name-end.ensures in
-    let h = c.requires.sized.0 in
-    omega (arith, n.follows, n.within, c.loop-j.invariant.1, (h 2 (lit< tt)).1, (h 6 (lit< tt)).1)
-
-pub bounds-keys-j : goal.bounds-keys-j
-bounds-keys-j c = omega (arith, (c.requires.sized.0 2 (lit< tt)).1, c.loop-j.invariant.2)
-
-pub is_right_name-requires : goal.is_right_name-requires
-is_right_name-requires c = record {
-  sized = c.requires.sized;
-  within = omega (arith, c.loop-j-test.true);
-  before = c.loop-j.invariant.0;
-  follows = c.loop-j.invariant.1;
-  firsts = c.requires.firsts;
-  keys = c.loop-j.invariant.3;
-}
-
-pub loop-j-preserved : goal.loop-j-preserved
-loop-j-preserved c =
-    let l = ap (λ (x : NameRecord). x.length) c.read_name-end.ensures in
-    let e = c.loop-j.invariant.1 in
-    let i = c.loop-j.invariant in (
-      below_more _ _ i.0 c.if-not-is_right_name.ensures,
-      rw (add-one, e, l),
-      simp length-set i.2,
-      below_more _ _ (λ k h. let ne : k ≢ c.loop-j.j = omega arith in rw get_or-set_other (i.3 k h))
-          (get_or-set_same c.loop-j.keys c.loop-j.j _ 0 (omega (arith, i.2, (c.requires.sized.0 2 (lit< tt)).1)) ∙ (c.key.ensures ∙ ap key_of c.read_text.ensures)),
+pub returns-then-not-next_is_right : goal.returns-then-not-next_is_right
+returns-then-not-next_is_right c =
+    let bs = c.args.records.now.bytes.now in
+    let sized = sized_of bs c.args.records.now.sized in
+    let keys = c.loop-j.names.keys.items in
+    let same = c.loop-j.invariant.0 in
+    let checked = checked_of _ c.loop-j.names.first.now keys c.loop-j.names.end c.loop-j.names.checked in
+    let count = ap (λ (h : Header). h.names) c.header-header.ensures in
+    let table = ap (λ (h : Header). h.name_table) c.header-header.ensures ∙ sized_name_table bs sized in
+    let at : c.header-header.result.name_table + 12 * c.loop-j.j ≡ name_offset bs c.loop-j.j = omega arith in (
+      sized,
+      c.requires.elements,
+      inl (
+        c.loop-j.j,
+        c.at.ensures ∙ ap (fault NameRecord) at,
+        record {
+          within = omega arith;
+          before = λ i h. subst (λ (b : List ℕ). RightName b i) same (checked.right i (omega arith));
+          here = λ r.
+              c.if-not-next_is_right.ensures (subst (λ (b : List ℕ). RightName b (length keys)) (sym same) (subst (RightName bs) (sym c.loop-j.invariant.1) r));
+        },
+      ),
     )
+
+pub returns-then-names-header : goal.returns-then-names-header
+returns-then-names-header c =
+    let bs = c.args.records.now.bytes.now in
+    let sized = sized_of bs c.args.records.now.sized in
+    let checked = checked_of _ c.loop-j.names.first.now c.loop-j.names.keys.items c.loop-j.names.end c.loop-j.names.checked in
+    let count = ap (λ (h : Header). h.names) c.header-header.ensures in
+    let size = ap (λ (h : Header). h.name_bytes) c.header-header.ensures in
+    let all = all_checked bs c.loop-j.names.first.now c.loop-j.names.keys.items c.loop-j.names.end (rw c.loop-j.invariant.0 at checked) (omega arith) in
+    let table = ap (λ (h : Header). h.name_table) c.header-header.ensures ∙ sized_name_table bs sized in
+    let at : c.header-header.result.name_table + 12 * c.header-header.result.names ≡ bytes_offset bs = omega arith in
+    (sized, c.requires.elements, inr (c.at-then-names-header.ensures ∙ ap (fault NameRecord) at, all.0, λ e. c.if-names-header.true (omega arith)))
+
+pub returns : goal.returns
+returns c =
+    let bs = c.args.records.now.bytes.now in
+    let checked = checked_of _ c.loop-j.names.first.now c.loop-j.names.keys.items c.loop-j.names.end c.loop-j.names.checked in
+    let count = ap (λ (h : Header). h.names) c.header-header.ensures in
+    let size = ap (λ (h : Header). h.name_bytes) c.header-header.ensures in
+    let all = all_checked bs c.loop-j.names.first.now c.loop-j.names.keys.items c.loop-j.names.end (rw c.loop-j.invariant.0 at checked) (omega arith) in
+    (all.0, omega arith)

@@ -1,21 +1,22 @@
-use Rattle.std.proofs.Common.{sym, ◌∙◌, arith, below_more}
-use Rattle.std.proofs.lemmas.Slice.Eq.{slice_eq-Decides}
-use Rattle.std.proofs.lemmas.Bool.{both_ways}
-use Rattle.sheet.proofs.Sizes.{lawful_sized, lawful_text}
+use Rattle.std.proofs.Common.{◌≡◌, ◌<◌, arith, rules, tests}
+use Rattle.std.proofs.lemmas.Iterator.{serves_from_Range, first_from_Range}
+use Rattle.layout.specs.Layout.{name_count, name_text}
+use Rattle.sheet.proofs.Sizes.{lawful_text}
+use Rattle.sheet.proofs.Viewed.{find_name}
 use Rattle.sheet.proofs.view.SheetView.find.Goals as goal
-use Rattle.std.proofs.lemmas.Bool.Decides.{Decides-eqb}
 
-pub read_text-requires : goal.read_text-requires
-read_text-requires c =
-    let h = c.args.self.now.lawful in
-    record { sized = lawful_sized _ h; within = omega arith; fits = lawful_text _ h c.loop-j.j (omega arith) }
+pub find-requires-clause-callable : goal.find-requires-clause-callable
+find-requires-clause-callable c =
+    serves_from_Range (λ x q k. search rules)
+    (λ x a b.
+    let within : x < name_count c.args.self.now.bytes.now = omega arith in
+    let t = lawful_text c.args.self.now.bytes.now c.args.self.now.lawful x within in
+    search rules)
 
-pub returns-then-eq : goal.returns-then-eq
-returns-then-eq c =
-    let d = slice_eq-Decides Decides-eqb _ _ _ c.eq.ensures in
-    (omega arith, sym c.read_text.ensures ∙ d.0 c.if-eq.true)
-
-pub loop-j-preserved : goal.loop-j-preserved
-loop-j-preserved c =
-    let d = slice_eq-Decides Decides-eqb _ _ _ c.eq.ensures in
-    below_more _ _ c.loop-j.invariant (λ e. both_ways _ c.if-eq.false (d.1 (c.read_text.ensures ∙ e)))
+pub returns : goal.returns
+returns c =
+    let bs = c.args.self.now.bytes.now in
+    let text = c.args.text.now in
+    find_name bs text c.name_count.result c.find.result c.name_count.ensures
+    (first_from_Range _ _ _ c.find.result (λ j. name_text bs j ≡ text) (λ j. name_text bs j ≡ text → ⊥) c.find.ensures.ran (λ j q k. search (rules, tests))
+    (λ j q k. (search rules, λ e. search (rules, tests))))
