@@ -7,7 +7,7 @@ ghost use Rattle.sheet.specs.Opening.{WrongElement, Each};
 ghost use Rattle.sheet.specs.Stack.{Stack, last_start};
 ghost use Rattle.sheet.specs.Links.{LinkedFrom, Firsts};
 
-use crate::records::Records;
+use crate::records::{self, Records};
 use arrayvec::ArrayVec;
 use markup::{Fault, Refusal};
 use tree::limits::{LAST_END, MOST_LEVELS, MOST_NAMES};
@@ -25,7 +25,7 @@ pub(crate) fn read_links(records: &Records) -> Links
     ensures wrong { LinkedFrom records.now.bytes.now 0 result.wrong }
     ensures first { Firsts records.now.bytes.now 0 result.first }
 {
-    let count = records.header().elements;
+    let count = records.element_count();
     let mut wrong = None;
     let mut first = [count; MOST_NAMES];
     for k in (0..count).rev() {
@@ -93,7 +93,7 @@ fn has_right_numbers(records: &Records, seen: u32, wrong: Option<u32>, k: u32) -
     ensures { MatchBool result (RightNumbers records.now.bytes.now k × IfSome wrong (λ w. k < w)) (RightNumbers records.now.bytes.now k → ⊥) }
 {
     let name = records.element(k).name as u32;
-    name < records.header().names && name <= seen && wrong != Some(k)
+    name < records.name_count() && name <= seen && wrong != Some(k)
 }
 
 // The element records in order, where `wrong` is the lowest one whose next is wrong.
@@ -103,9 +103,9 @@ pub(crate) fn check_elements(records: &Records, wrong: Option<u32>) -> Result<()
 {
     let mut stack = ArrayVec::new();
     let mut seen = 0;
-    for k in 0..records.header().elements {
+    for k in 0..records.element_count() {
         if !place(records, &mut stack, k) || !has_right_numbers(records, seen, wrong, k) {
-            return Err(Refusal::ElementRecord.at(32 + 16 * k as usize));
+            return Err(Refusal::ElementRecord.at(records::element_offset(k)));
         }
         seen = seen.max(records.element(k).name as u32 + 1);
     }

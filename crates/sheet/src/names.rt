@@ -63,12 +63,12 @@ impl<'r, 'b> Names<'r, 'b> {
         ensures { MatchBool result (RightName self.now.records.now.bytes.now (length self.now.keys.items)) (RightName self.now.records.now.bytes.now (length self.now.keys.items) → ⊥) }
     {
         let j = self.keys.len() as u32;
-        let header = self.records.header();
         let n = self.records.name(j);
-        if n.offset != self.end || n.offset as u64 + n.length as u64 > header.name_bytes as u64 {
+        let end = n.offset as u64 + n.length as u64;
+        if n.offset != self.end || end > self.records.byte_count() as u64 {
             return false;
         }
-        if n.first >= header.elements || n.first != self.first[j as usize] {
+        if n.first >= self.records.element_count() || n.first != self.first[j as usize] {
             return false;
         }
         let text = self.records.text(j);
@@ -94,17 +94,15 @@ pub(crate) fn check_names(records: &Records, first: &[u32; MOST_NAMES]) -> Resul
     requires elements { Each (RightElement records.now.bytes.now) (element_count records.now.bytes.now) }
     ensures { MatchResult result (λ _. Each (RightName records.now.bytes.now) (name_count records.now.bytes.now) × (names_end records.now.bytes.now (name_count records.now.bytes.now) ≡ byte_count records.now.bytes.now)) (λ f. WrongName records.now.bytes.now f) }
 {
-    let header = records.header();
-    let table = header.name_table as usize;
     let mut names = Names::new(records, first);
-    for j in 0..header.names {
+    for j in 0..records.name_count() {
         if !names.next_is_right() {
-            return Err(Refusal::NameRecord.at(table + 12 * j as usize));
+            return Err(Refusal::NameRecord.at(records.name_offset(j)));
         }
         names.push();
     }
-    if names.end != header.name_bytes {
-        return Err(Refusal::NameRecord.at(table + 12 * header.names as usize));
+    if names.end != records.byte_count() {
+        return Err(Refusal::NameRecord.at(records.bytes_offset()));
     }
     Ok(())
 }

@@ -1,12 +1,19 @@
 // Reads the records of a sheet.
 ghost use Rattle.std.specs.Prelude.{◌≡◌, ◌+◌, ◌<◌, ◌≤◌};
-ghost use Rattle.layout.specs.Layout.{element_count, element_at, next_at, name_count, byte_count, name_at, name_text};
+ghost use Rattle.layout.specs.Layout.{element_offset, element_count, element_at, next_at, name_count, byte_count, name_offset, bytes_offset, name_at, name_text};
 ghost use Rattle.sheet.specs.Opening.{Sized};
 
 use crate::header::Header;
 use crate::read;
 use layout::NameRecord;
 use tree::Element;
+
+// Where the record of element k begins.
+pub(crate) fn element_offset(k: u32) -> usize
+    ensures { result ≡ element_offset k }
+{
+    32 + 16 * k as usize
+}
 
 // The bytes of a sheet whose header is right and tells their length.
 #[derive(Clone, Copy)]
@@ -18,10 +25,43 @@ pub(crate) struct Records<'b> {
 impl<'b> Records<'b> {
     ghost use Rattle.sheet.specs.Opening.{header_at};
 
-    pub(crate) fn header(&self) -> Header
+    fn header(&self) -> Header
         ensures { result ≡ header_at self.now.bytes.now }
     {
         Header::read(self.bytes)
+    }
+
+    pub(crate) fn element_count(&self) -> u32
+        ensures { result ≡ element_count self.now.bytes.now }
+    {
+        self.header().elements
+    }
+
+    pub(crate) fn name_count(&self) -> u32
+        ensures { result ≡ name_count self.now.bytes.now }
+    {
+        self.header().names
+    }
+
+    // How many name bytes there are.
+    pub(crate) fn byte_count(&self) -> u32
+        ensures { result ≡ byte_count self.now.bytes.now }
+    {
+        self.header().name_bytes
+    }
+
+    // Where the name bytes begin.
+    pub(crate) fn bytes_offset(&self) -> usize
+        ensures { result ≡ bytes_offset self.now.bytes.now }
+    {
+        self.header().texts as usize
+    }
+
+    // Where name record j begins.
+    pub(crate) fn name_offset(&self, j: u32) -> usize
+        ensures { result ≡ name_offset self.now.bytes.now j }
+    {
+        self.header().name_table as usize + 12 * j as usize
     }
 
     // Element k.
@@ -29,7 +69,7 @@ impl<'b> Records<'b> {
         requires { k < element_count self.now.bytes.now }
         ensures { result ≡ element_at self.now.bytes.now k }
     {
-        let at = 32 + 16 * k as usize;
+        let at = element_offset(k);
         Element {
             start: read::u32_at(self.bytes, at),
             end: read::u32_at(self.bytes, at + 4),
@@ -43,7 +83,7 @@ impl<'b> Records<'b> {
         requires { k < element_count self.now.bytes.now }
         ensures { result ≡ next_at self.now.bytes.now k }
     {
-        read::u32_at(self.bytes, 44 + 16 * k as usize)
+        read::u32_at(self.bytes, element_offset(k) + 12)
     }
 
     // Name record j.
@@ -51,7 +91,7 @@ impl<'b> Records<'b> {
         requires { j < name_count self.now.bytes.now }
         ensures { result ≡ name_at self.now.bytes.now j }
     {
-        let at = self.header().name_table as usize + 12 * j as usize;
+        let at = self.name_offset(j);
         NameRecord {
             offset: read::u32_at(self.bytes, at),
             length: read::u32_at(self.bytes, at + 4),
@@ -65,9 +105,8 @@ impl<'b> Records<'b> {
         requires fits { (name_at self.now.bytes.now j).offset + (name_at self.now.bytes.now j).length ≤ byte_count self.now.bytes.now }
         ensures { result.now ≡ name_text self.now.bytes.now j }
     {
-        let texts = self.header().texts as usize;
         let name = self.name(j);
-        let from = texts + name.offset as usize;
+        let from = self.bytes_offset() + name.offset as usize;
         &self.bytes[from..from + name.length as usize]
     }
 }

@@ -55,21 +55,21 @@ impl<'b> SheetView<'b> {
     pub fn element_count(&self) -> u32
         ensures { result ≡ element_count self.now.bytes.now }
     {
-        self.records().header().elements
+        self.records().element_count()
     }
 
     // How many names there are.
     pub fn name_count(&self) -> u32
         ensures { result ≡ name_count self.now.bytes.now }
     {
-        self.records().header().names
+        self.records().name_count()
     }
 
     // Element k.
     pub fn element(&self, k: u32) -> Option<Element>
         ensures { result ≡ element_in self.now.bytes.now k }
     {
-        // Not by `then`: nothing is known of what its closure gives.
+        // Not `then`: nothing is known of what its closure gives, and the proof does not close.
         if k < self.element_count() {
             Some(self.records().element(k))
         } else {

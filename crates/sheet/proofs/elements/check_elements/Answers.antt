@@ -1,14 +1,23 @@
-use Rattle.std.proofs.Common.{ap, add-one, arith, rules, below_more}
+use Rattle.std.proofs.Common.{ap, ◌∙◌, add-one, arith, rules, below_more}
+use Rattle.markup.specs.declared.fault.Refusal.TheVariants.{ElementRecord}
+use Rattle.markup.specs.Faults.{fault}
 use Rattle.tree.specs.declared.element.Element.{Element}
-use Rattle.sheet.specs.declared.header.Header.{Header}
 use Rattle.sheet.proofs.Props.{sized_of}
 use Rattle.sheet.proofs.elements.check_elements.Goals as goal
 
 pub returns-then-not-place : goal.returns-then-not-place
-returns-then-not-place c =
-    let bs = c.args.records.now.bytes.now in
-    let count = ap (λ (h : Header). h.elements) c.header-k-end.ensures in
-    (sized_of bs c.args.records.now.sized, (c.loop-k.k, c.at.ensures, record { within = omega arith; before = c.loop-k.invariant.0; here = λ r. search rules }))
+returns-then-not-place c = (
+  sized_of c.args.records.now.bytes.now c.args.records.now.sized,
+  (
+    c.loop-k.k,
+    c.at.ensures ∙ ap (fault ElementRecord) c.element_offset.ensures,
+    record {
+      within = omega arith;
+      before = c.loop-k.invariant.0;
+      here = λ r. search rules;
+    },
+  ),
+)
 
 pub loop-k-preserved : goal.loop-k-preserved
 loop-k-preserved c =

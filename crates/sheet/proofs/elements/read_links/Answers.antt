@@ -2,7 +2,6 @@ use Rattle.std.proofs.Common.{◌≡◌, ◌+◌, ◌-◌, ◌<◌, refl, ap, su
 use Rattle.std.proofs.lemmas.List.{length-set}
 use Rattle.tree.specs.declared.element.Element.{Element}
 use Rattle.layout.specs.Layout.{element_count}
-use Rattle.sheet.specs.declared.header.Header.{Header}
 use Rattle.sheet.specs.Links.{LinkedFrom}
 use Rattle.sheet.proofs.Links.{linked_none, firsts_none, linked_other, linked_right, linked_wrong, firsts_other, firsts_set}
 use Rattle.sheet.proofs.elements.read_links.Goals as goal
@@ -11,14 +10,13 @@ use Rattle.sheet.proofs.elements.read_links.Goals.{then-next-first, else-next-fi
 pub loop-k-init : goal.loop-k-init
 loop-k-init c =
     let bs = c.args.records.now.bytes.now in
-    let n = c.header-count.result.elements in
-    let e = ap (λ (h : Header). h.elements) c.header-count.ensures in
+    let n = c.element_count-count.result in
+    let e = c.element_count-count.ensures in
     (refl, linked_none bs n e, firsts_none bs n e)
 
 pub loop-k-preserved-then-name-lt-MOST_NAMES : goal.loop-k-preserved-then-name-lt-MOST_NAMES
 loop-k-preserved-then-name-lt-MOST_NAMES c =
     let bs = c.args.records.now.bytes.now in
-    let count = ap (λ (h : Header). h.elements) c.header-count.ensures in
     let m = c.loop-k.k in
     let k = m - 1 in
     let h : k < element_count bs = omega arith in
@@ -41,7 +39,6 @@ loop-k-preserved-then-name-lt-MOST_NAMES c =
 pub loop-k-preserved : goal.loop-k-preserved
 loop-k-preserved c =
     let bs = c.args.records.now.bytes.now in
-    let count = ap (λ (h : Header). h.elements) c.header-count.ensures in
     let m = c.loop-k.k in
     let k = m - 1 in
     let h : k < element_count bs = omega arith in

@@ -1,29 +1,22 @@
-use Rattle.std.proofs.Common.{◌≡◌, ℕ, ◌+◌, ◌*◌, List, length, sym, ap, ◌∙◌, subst, inl, inr, arith}
+use Rattle.std.proofs.Common.{ℕ, List, length, sym, ap, ◌∙◌, subst, inl, inr, arith}
 use Rattle.markup.specs.declared.fault.Refusal.TheVariants.{NameRecord}
 use Rattle.markup.specs.Faults.{fault}
-use Rattle.layout.specs.Layout.{name_offset, bytes_offset}
 use Rattle.layout.specs.Lawful.{RightName}
-use Rattle.sheet.specs.declared.header.Header.{Header}
 use Rattle.sheet.proofs.Props.{sized_of, checked_of}
-use Rattle.sheet.proofs.Sizes.{sized_name_table}
 use Rattle.sheet.proofs.Naming.{all_checked}
 use Rattle.sheet.proofs.names.check_names.Goals as goal
 
 pub returns-then-not-next_is_right : goal.returns-then-not-next_is_right
 returns-then-not-next_is_right c =
     let bs = c.args.records.now.bytes.now in
-    let sized = sized_of bs c.args.records.now.sized in
     let keys = c.loop-j.names.keys.items in
     let same = c.loop-j.invariant.0 in
-    let checked = checked_of _ c.loop-j.names.first.now keys c.loop-j.names.end c.loop-j.names.checked in
-    let count = ap (λ (h : Header). h.names) c.header-header.ensures in
-    let table = ap (λ (h : Header). h.name_table) c.header-header.ensures ∙ sized_name_table bs sized in
-    let at : c.header-header.result.name_table + 12 * c.loop-j.j ≡ name_offset bs c.loop-j.j = omega arith in (
-      sized,
+    let checked = checked_of _ c.loop-j.names.first.now keys c.loop-j.names.end c.loop-j.names.checked in (
+      sized_of bs c.args.records.now.sized,
       c.requires.elements,
       inl (
         c.loop-j.j,
-        c.at.ensures ∙ ap (fault NameRecord) at,
+        c.at.ensures ∙ ap (fault NameRecord) c.name_offset.ensures,
         record {
           within = omega arith;
           before = λ i h. subst (λ (b : List ℕ). RightName b i) same (checked.right i (omega arith));
@@ -33,23 +26,16 @@ returns-then-not-next_is_right c =
       ),
     )
 
-pub returns-then-names-header : goal.returns-then-names-header
-returns-then-names-header c =
+pub returns-then-names-byte_count : goal.returns-then-names-byte_count
+returns-then-names-byte_count c =
     let bs = c.args.records.now.bytes.now in
-    let sized = sized_of bs c.args.records.now.sized in
     let checked = checked_of _ c.loop-j.names.first.now c.loop-j.names.keys.items c.loop-j.names.end c.loop-j.names.checked in
-    let count = ap (λ (h : Header). h.names) c.header-header.ensures in
-    let size = ap (λ (h : Header). h.name_bytes) c.header-header.ensures in
     let all = all_checked bs c.loop-j.names.first.now c.loop-j.names.keys.items c.loop-j.names.end (rw c.loop-j.invariant.0 at checked) (omega arith) in
-    let table = ap (λ (h : Header). h.name_table) c.header-header.ensures ∙ sized_name_table bs sized in
-    let at : c.header-header.result.name_table + 12 * c.header-header.result.names ≡ bytes_offset bs = omega arith in
-    (sized, c.requires.elements, inr (c.at-then-names-header.ensures ∙ ap (fault NameRecord) at, all.0, λ e. c.if-names-header.true (omega arith)))
+    (sized_of bs c.args.records.now.sized, c.requires.elements, inr (c.at-then-names-byte_count.ensures ∙ ap (fault NameRecord) c.bytes_offset.ensures, all.0, λ e. c.if-names-byte_count.true (omega arith)))
 
 pub returns : goal.returns
 returns c =
     let bs = c.args.records.now.bytes.now in
     let checked = checked_of _ c.loop-j.names.first.now c.loop-j.names.keys.items c.loop-j.names.end c.loop-j.names.checked in
-    let count = ap (λ (h : Header). h.names) c.header-header.ensures in
-    let size = ap (λ (h : Header). h.name_bytes) c.header-header.ensures in
     let all = all_checked bs c.loop-j.names.first.now c.loop-j.names.keys.items c.loop-j.names.end (rw c.loop-j.invariant.0 at checked) (omega arith) in
     (all.0, omega arith)
