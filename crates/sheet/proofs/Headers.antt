@@ -1,9 +1,6 @@
 -- The header, from the answers to its eight tests.
-use Rattle.std.proofs.Common.{◌≡◌, ℕ, zero, suc, ◌<◌, Bool, true, false, List, [], ◌∷◌, length, get_or, Decides, arith}
-use Rattle.std.proofs.lemmas.Bool.{both_ways}
-use Rattle.std.specs.List.{AllWithin, HoldsAt}
+use Rattle.std.proofs.Common.{ℕ, zero, suc, ◌<◌, Bool, true, List, [], ◌∷◌, get_or, Decides, arith}
 use Rattle.layout.specs.Lawful.{RightField}
-use Rattle.sheet.specs.Opening.{FirstWrong}
 
 pub right_fields : (bs : List ℕ) (a b c d e f g h : Bool) → Decides a (RightField bs 0) → Decides b (RightField bs 1) → Decides c (RightField bs 2) → Decides d (RightField bs 3)
     → Decides e (RightField bs 4) → Decides f (RightField bs 5) → Decides g (RightField bs 6) → Decides h (RightField bs 7)
@@ -17,12 +14,3 @@ right_fields bs a b c d e f g h p q r s t u v w (suc (suc (suc (suc (suc zero)))
 right_fields bs a b c d e f g h p q r s t u v w (suc (suc (suc (suc (suc (suc zero)))))) l = v
 right_fields bs a b c d e f g h p q r s t u v w (suc (suc (suc (suc (suc (suc (suc zero))))))) l = w
 right_fields bs a b c d e f g h p q r s t u v w (suc (suc (suc (suc (suc (suc (suc (suc i)))))))) l = absurd (omega arith)
-
--- the first test that fails is at the first wrong field
-pub first_wrong_field : (bs : List ℕ) (right : List Bool) (i : ℕ) → length right ≡ 8 → ((j : ℕ) → j < 8 → Decides (get_or right j true) (RightField bs j))
-    → (i < length right) × HoldsAt (λ b. b ≡ false) right i × AllWithin (λ b. b ≡ true) right 0 i → FirstWrong (RightField bs) 8 i
-first_wrong_field bs right i n d m = record {
-  within = omega arith;
-  before = λ j h. (d j (omega arith)).0 (m.2 j true (omega arith) h);
-  here = λ p. both_ways _ (m.1 true) ((d i (omega arith)).1 p);
-}

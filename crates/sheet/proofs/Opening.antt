@@ -1,12 +1,9 @@
 -- From the parts of the check to its answer, and what the answers say.
-use Rattle.std.proofs.Common.{◌≡◌, ℕ, ◌<◌, List, length, is_ok, Ok, Err, Decides, Result, refl, inl, inr, ⊎_elim, arith, lit<, MatchResult}
+use Rattle.std.proofs.Common.{◌≡◌, ℕ, ◌<◌, List, length, Ok, Err, Result, inl, inr, ⊎_elim, arith, lit<, MatchResult}
 use Rattle.markup.specs.declared.fault.Fault.{Fault}
-use Rattle.layout.specs.Layout.{u32_at, element_count, name_count, byte_count}
-use Rattle.layout.specs.Lawful.{RightHeader, RightElement, RightName, names_end, LawfulSheet}
+use Rattle.layout.specs.Layout.{element_count, name_count, byte_count}
+use Rattle.layout.specs.Lawful.{RightElement, RightName, names_end, LawfulSheet}
 use Rattle.sheet.specs.Opening.{Opened, Refused, WrongName, Sized, Each}
-
-pub sized_by_total : (bs : List ℕ) (t : ℕ) → RightHeader bs → length bs ≡ t → t ≡ u32_at bs 28 → Sized bs
-sized_by_total bs t h p q = (h, omega (arith, h 7 (lit< tt)))
 
 pub answered : (bs : List ℕ) (r : Result (Unit {0}) Fault) → Sized bs → Each (RightElement bs) (element_count bs)
     → MatchResult r (λ _. Each (RightName bs) (name_count bs) × (names_end bs (name_count bs) ≡ byte_count bs)) (λ f. WrongName bs f)
@@ -24,7 +21,3 @@ refused_unlawful bs f (inr (inl w)) l = w.1.2.here (l.header w.1.0 w.1.2.within)
 refused_unlawful bs f (inr (inr (inl w))) l = w.1.2.here (l.elements w.1.0 w.1.2.within)
 refused_unlawful bs f (inr (inr (inr w))) l =
     ⊎_elim (λ q. q.2.here (l.names q.0 q.2.within)) (λ q. q.2 l.filled) w.2
-
-pub opened_decides : (bs : List ℕ) (r : Result (Unit {0}) Fault) → Opened bs r → Decides (is_ok r) (LawfulSheet bs)
-opened_decides bs (Ok u) o = (λ e. o, λ l. refl)
-opened_decides bs (Err f) o = (λ e. absurd (let z : ◌≡◌ {A = ℕ} 0 1 = cc in omega arith), λ l. absurd (refused_unlawful bs f o l))

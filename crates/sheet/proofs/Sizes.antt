@@ -1,13 +1,9 @@
 -- How long a sheet with a right header is, and where its names stand.
-use Rattle.std.proofs.Common.{◌≡◌, ℕ, ◌+◌, ◌-◌, ◌*◌, ◌<◌, ◌≤◌, List, length, take, drop, arith, lit<}
-use Rattle.layout.specs.declared.record.NameRecord.{NameRecord}
-use Rattle.layout.specs.Layout.{u32_at, element_count, name_count, byte_count, bytes_offset, name_at, name_text}
+use Rattle.std.proofs.Common.{◌≡◌, ℕ, ◌+◌, ◌*◌, ◌<◌, ◌≤◌, List, lit<}
+use Rattle.layout.specs.Layout.{u32_at, element_count, name_count, byte_count, bytes_offset, name_at}
 use Rattle.layout.specs.Lawful.{LawfulSheet}
 use Rattle.sheet.specs.Opening.{Sized}
 use Rattle.sheet.proofs.Props.{lawful_of}
-
-pub sized_length : (bs : List ℕ) → Sized bs → length bs ≡ bytes_offset bs + byte_count bs
-sized_length bs h = h.1
 
 pub sized_texts : (bs : List ℕ) → Sized bs → u32_at bs 20 ≡ bytes_offset bs
 sized_texts bs h = h.0 5 (lit< tt)
@@ -18,20 +14,10 @@ sized_name_table bs h = h.0 4 (lit< tt)
 pub sized_names : (bs : List ℕ) → Sized bs → name_count bs ≤ 1024
 sized_names bs h = (h.0 2 (lit< tt)).1
 
--- the part of the bytes that a name record tells
-pub text_is : (bs : List ℕ) (j t : ℕ) (n : NameRecord) → t ≡ bytes_offset bs → n ≡ name_at bs j
-    → take ((t + n.offset + n.length) - (t + n.offset)) (drop (t + n.offset) bs) ≡ name_text bs j
-text_is bs j t n p q =
-    let d : (t + n.offset + n.length) - (t + n.offset) ≡ n.length = omega arith in
-    rw (d, p, q)
-
 -- A lawful sheet.
 
 pub lawful_sized : (bs : List ℕ) → ∥ LawfulSheet bs ∥₁ → Sized bs
 lawful_sized bs h = let l = lawful_of bs h in (l.header, l.size)
-
-pub lawful_length : (bs : List ℕ) → ∥ LawfulSheet bs ∥₁ → length bs ≡ bytes_offset bs + byte_count bs
-lawful_length bs h = (lawful_of bs h).size
 
 -- its names stand among its name bytes
 pub lawful_text : (bs : List ℕ) → ∥ LawfulSheet bs ∥₁ → (j : ℕ) → j < name_count bs → (name_at bs j).offset + (name_at bs j).length ≤ byte_count bs

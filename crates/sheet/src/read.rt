@@ -4,6 +4,7 @@ ghost use Rattle.layout.specs.Layout.{u16_at, u32_at};
 
 use byteorder::{ByteOrder, LittleEndian};
 
+#[tactic(auto, using(crate::proofs::Words::u16_read))]
 pub(crate) fn u16_at(bytes: &[u8], at: usize) -> u16
     requires { at + 2 ≤ length bytes.now }
     ensures { result ≡ u16_at bytes.now at }
@@ -11,6 +12,7 @@ pub(crate) fn u16_at(bytes: &[u8], at: usize) -> u16
     LittleEndian::read_u16(&bytes[at..])
 }
 
+#[tactic(auto, using(crate::proofs::Words::u32_read))]
 pub(crate) fn u32_at(bytes: &[u8], at: usize) -> u32
     requires { at + 4 ≤ length bytes.now }
     ensures { result ≡ u32_at bytes.now at }

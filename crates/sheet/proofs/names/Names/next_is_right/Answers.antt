@@ -4,9 +4,6 @@ use Rattle.sheet.proofs.Sizes.{sized_names}
 use Rattle.sheet.proofs.Naming.{right_name, right_first}
 use Rattle.sheet.proofs.names.Names.next_is_right.Goals as goal
 
-pub bounds-self-j : goal.bounds-self-j
-bounds-self-j c = let few = sized_names _ (sized_of _ c.args.self.now.records.now.sized) in omega arith
-
 pub returns-then-n-element_count : goal.returns-then-n-element_count
 returns-then-n-element_count c right =
     let bs = c.args.self.now.records.now.bytes.now in
