@@ -1,7 +1,6 @@
 use Rattle.std.proofs.Common.{◌<◌, ap, arith}
 use Rattle.tree.specs.declared.element.Element.{Element}
 use Rattle.layout.specs.Layout.{element_at, name_count}
-use Rattle.sheet.proofs.Props.{sized_of}
 use Rattle.sheet.proofs.Sizes.{sized_names}
 use Rattle.sheet.proofs.Links.{right_numbers}
 use Rattle.sheet.proofs.elements.has_right_numbers.Goals as goal
@@ -11,6 +10,6 @@ returns-then-name-seen c =
     let bs = c.args.records.now.bytes.now in
     let k = c.args.k in
     let name = ap (λ (r : Element). r.name) c.element-name.ensures in
-    let few = sized_names bs (sized_of bs c.args.records.now.sized) in
+    let few = sized_names bs c.args.records.now.sized in
     let named : (element_at bs k).name < name_count bs = omega arith in
     right_numbers bs k c.args.wrong c.ne.result c.ne.ensures c.requires.linked c.requires.before c.requires.within (omega arith) named (omega arith)
