@@ -11,7 +11,7 @@ use crate::token::{Part, Tag, Token};
 use markup::scan::NameBytes;
 use markup::{Fault, Refusal, name, scan};
 
-// What is left of a book text: the place of its first byte, and its bytes. Its end is a place too.
+// What is left of a book text: the place of its first byte, and its bytes. Unlike a `Part`, which anyone can make, it ends below 2^64.
 #[derive(Clone, Copy)]
 struct Rest<'t> {
     place: usize,
