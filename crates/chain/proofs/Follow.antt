@@ -11,7 +11,6 @@ use Rattle.layout.specs.Lawful.{FirstNamed, LawfulSheet}
 use Rattle.sheet.specs.Viewing.{element_in, next_in}
 use Rattle.stream.specs.Lists.{update, first, rest}
 use Rattle.stream.specs.Regions.{region_of}
-use Rattle.stream.proofs.Positions.{update_fixed}
 use Rattle.sheet.specs.Laws.{FirstIfAny}
 use Rattle.sheet.proofs.Promises.{chains_follow_names}
 use Rattle.chain.specs.Chains.{named, chain_from, chains}
@@ -66,30 +65,26 @@ module _ (bs : List ℕ) (law : LawfulSheet bs) (k : ℕ) where
       (λ (l : k < element_count bs). sym (ap (λ (es : List Element). rest (map region_of es)) (chain_step bs law k l)))
       (λ (l : element_count bs ≤ k). let b : ltb k (element_count bs) ≡ false = le-ltb k (element_count bs) l in rw (ended bs (element_at bs k).name k l, b) refl) (cases_lt k (element_count bs))
 
-module _ (bs : List ℕ) (heads : List (Option ℕ)) (n : length heads ≡ 16) (i : ℕ) where
+module _ (bs : List ℕ) (law : LawfulSheet bs) (heads : List (Option ℕ)) (n : length heads ≡ 16) (i k : ℕ) (head : get_or heads i None ≡ Some k) where
   -- past the last position there is no first element
-  list_by : (head : Option ℕ) → get_or heads i None ≡ head → chains bs heads i ≡ map region_of (chain_from bs head)
-  list_by head e = ⊎_elim
+  list_by : chains bs heads i ≡ map region_of (chain_from bs (Some k))
+  list_by = ⊎_elim
       (λ (l : i < 16). cond-true _ _ _ (lt-ltb i 16 l))
       (λ (l : 16 ≤ i). cond-false (ltb i 16) _ _ (le-ltb i 16 l) ∙ sym (ap (λ (o : Option ℕ). map region_of (chain_from bs o)) (get_or_past heads i None (omega arith)))) (cases_lt i 16)
-      ∙ ap (λ (o : Option ℕ). map region_of (chain_from bs o)) e
+      ∙ ap (λ (o : Option ℕ). map region_of (chain_from bs o)) head
 
-  pub none_taken : get_or heads i None ≡ None → chains bs heads ≡ update i rest (chains bs heads)
-  none_taken e = let none = list_by None e in sym (update_fixed i rest (chains bs heads) (ap rest none ∙ sym none))
+  pub first_told : first (chains bs heads i) ≡ option_map region_of (element_in bs k)
+  first_told = ap first list_by ∙ first_of_chain bs law k
 
-  module _ (law : LawfulSheet bs) (k : ℕ) (head : get_or heads i None ≡ Some k) where
-    pub first_told : first (chains bs heads i) ≡ option_map region_of (element_in bs k)
-    first_told = ap first (list_by (Some k) head) ∙ first_of_chain bs law k
+  pub next_taken : (v : Option ℕ) → i < 16 → v ≡ next_in bs k → chains bs (set heads i v) ≡ update i rest (chains bs heads)
+  next_taken v inside e = fun_ext (λ j. go j (eqb j i) refl)
+    where
+      same : chains bs (set heads i v) i ≡ rest (chains bs heads i)
+      same =
+          cond-true _ _ _ (lt-ltb i 16 inside)
+          ∙ ap (λ (o : Option ℕ). map region_of (chain_from bs o)) (get_or-set_same heads i v None (omega arith) ∙ e)
+          ∙ rest_of_chain bs law k ∙ sym (ap rest list_by)
 
-    pub next_taken : (v : Option ℕ) → i < 16 → v ≡ next_in bs k → chains bs (set heads i v) ≡ update i rest (chains bs heads)
-    next_taken v inside e = fun_ext (λ j. go j (eqb j i) refl)
-      where
-        same : chains bs (set heads i v) i ≡ rest (chains bs heads i)
-        same =
-            cond-true _ _ _ (lt-ltb i 16 inside)
-            ∙ ap (λ (o : Option ℕ). map region_of (chain_from bs o)) (get_or-set_same heads i v None (omega arith) ∙ e)
-            ∙ rest_of_chain bs law k ∙ sym (ap rest (list_by (Some k) head))
-
-        go : (j : ℕ) (b : Bool) → eqb j i ≡ b → chains bs (set heads i v) j ≡ cond b (rest (chains bs heads j)) (chains bs heads j)
-        go j true t = let same' : j ≡ i = eqb-true j i t in rw same' same
-        go j false t = ap (λ (o : Option ℕ). cond (ltb j 16) (map region_of (chain_from bs o)) []) (get_or-set_other heads i j v None (eqb-false j i t))
+      go : (j : ℕ) (b : Bool) → eqb j i ≡ b → chains bs (set heads i v) j ≡ cond b (rest (chains bs heads j)) (chains bs heads j)
+      go j true t = let here : j ≡ i = eqb-true j i t in rw here same
+      go j false t = ap (λ (o : Option ℕ). cond (ltb j 16) (map region_of (chain_from bs o)) []) (get_or-set_other heads i j v None (eqb-false j i t))

@@ -1,9 +1,10 @@
 -- The elements with a name are those with its number.
-use Rattle.std.proofs.Common.{◌≡◌, ℕ, zero, suc, ◌+◌, ◌-◌, ◌<◌, ◌≤◌, Bool, true, false, eqb, ltb, List, [], ◌∷◌, map, length, get_or, None, Option, filter, sym, refl, ap, ◌∙◌, ⊎_elim, arith}
+use Rattle.std.proofs.Common.{◌≡◌, ℕ, zero, suc, ◌+◌, ◌-◌, ◌<◌, ◌≤◌, Bool, false, eqb, ltb, List, [], map, length, get_or, None, Option, filter, sym, refl, ap, ◌∙◌, ⊎_elim, arith}
 use Rattle.std.proofs.Math.Path.{fun_ext}
 use Rattle.std.specs.List.{range_with_len}
 use Rattle.std.proofs.lemmas.Slice.Eq.{bytes_eq-Decides}
-use Rattle.std.proofs.lemmas.Bool.{cases_lt, eq-eqb, eqb-true, true≢false, lt-ltb, le-ltb, cond-true, cond-false}
+use Rattle.std.proofs.lemmas.Bool.{cases_lt, eq-eqb, eqb-true, false_from_ne_true, lt-ltb, le-ltb, cond-true, cond-false}
+use Rattle.std.proofs.lemmas.Bool.Decides.{same_from_decides}
 use Rattle.tree.specs.declared.element.Element.{Element}
 use Rattle.tree.specs.Tree.{Tree}
 use Rattle.layout.specs.Layout.{element_count, name_count, element_at, elements_of, names_of, name_text, tree_of}
@@ -17,19 +18,14 @@ use Rattle.chain.specs.Chains.{named, chain_from, chains}
 use Rattle.chain.specs.Named.{has_name, lists_of}
 use Rattle.chain.proofs.Follow.{from_first_if_any}
 
-same_test : (b c : Bool) → (b ≡ true → c ≡ true) → (c ≡ true → b ≡ true) → b ≡ c
-same_test true c f g = sym (f refl)
-same_test false true f g = g refl
-same_test false false f g = refl
-
 -- two tests that agree keep the same
 kept_same : (f : ℕ → Element) (p q : Element → Bool) (a n : ℕ) → ((k : ℕ) → a ≤ k → k < a + n → p (f k) ≡ q (f k)) → filter p (map f (range_with_len a n)) ≡ filter q (map f (range_with_len a n))
 kept_same f p q a zero h = refl
 kept_same f p q a (suc n) h = rw (h a (omega arith) (omega arith), kept_same f p q (a + 1) n (λ k u v. h k (omega arith) (omega arith)))
 
-kept_none : (es : List Element) → filter (λ _. false) es ≡ []
-kept_none [] = refl
-kept_none (e ∷ es) = kept_none es
+kept_none : (f : ℕ → Element) (p : Element → Bool) (a n : ℕ) → ((k : ℕ) → a ≤ k → k < a + n → p (f k) ≡ false) → filter p (map f (range_with_len a n)) ≡ []
+kept_none f p a zero h = refl
+kept_none f p a (suc n) h = rw (h a (omega arith) (omega arith)) (kept_none f p (a + 1) n (λ k u v. h k (omega arith) (omega arith)))
 
 module _ (bs : List ℕ) (law : LawfulSheet bs) (text : List ℕ) where
   -- what the test sees at element k
@@ -38,10 +34,9 @@ module _ (bs : List ℕ) (law : LawfulSheet bs) (text : List ℕ) where
 
   pub none_has : ((j : ℕ) → j < name_count bs → name_text bs j ≡ text → ⊥) → filter (has_name (tree_of bs) text) (elements_of bs) ≡ []
   none_has none =
-      kept_same (element_at bs) _ (λ _. false) 0 (element_count bs)
+      kept_none (element_at bs) _ 0 (element_count bs)
       (λ k u v. let h : k < element_count bs = omega arith in
-      same_test _ false (λ t. absurd (none (element_at bs k).name (law.elements k h).numbers.named (sym (seen k h) ∙ (bytes_eq-Decides _ text).0 t))) (λ t. absurd (true≢false (sym t))))
-      ∙ kept_none (elements_of bs)
+      false_from_ne_true _ (λ t. none (element_at bs k).name (law.elements k h).numbers.named (sym (seen k h) ∙ (bytes_eq-Decides _ text).0 t)))
 
   one_name : (i j : ℕ) → i < name_count bs → j < name_count bs → name_text bs i ≡ name_text bs j → i ≡ j
   one_name i j h k e =
@@ -54,9 +49,11 @@ module _ (bs : List ℕ) (law : LawfulSheet bs) (text : List ℕ) where
       rw z (kept_same (element_at bs) _ (λ x. eqb x.name j) 0 (element_count bs)
       (λ k u v. let w : k < element_count bs = omega arith in
       let n = (element_at bs k).name in
-      same_test _ _
-      (λ t. eq-eqb n j (one_name n j (law.elements k w).numbers.named h (sym (seen k w) ∙ (bytes_eq-Decides _ text).0 t ∙ sym e)))
-      (λ t. (bytes_eq-Decides _ text).1 (seen k w ∙ ap (name_text bs) (eqb-true n j t) ∙ e))))
+      same_from_decides _ (eqb n j) (
+        (λ t. one_name n j (law.elements k w).numbers.named h (sym (seen k w) ∙ (bytes_eq-Decides _ text).0 t ∙ sym e)),
+        (λ (same : n ≡ j). (bytes_eq-Decides _ text).1 (seen k w ∙ ap (name_text bs) same ∙ e)),
+      )
+      (eqb-true n j, eq-eqb n j)))
 
 -- What a position's first element leads to is the list of its node.
 module _ (bs : List ℕ) (law : LawfulSheet bs) (nodes : List Vertex) (i : ℕ) (inside : i < length nodes) (text : List ℕ) (is : text ≡ (node_at nodes i).name) where

@@ -25,9 +25,6 @@ module _ (p : Region → Bool) (lists : ℕ → List Region) (i : ℕ) where
   pub stepped : (after : ℕ → List Region) → after ≡ update i rest lists → first_passes p (lists i) ≡ false → update i (drop_until p) after ≡ update i (drop_until p) lists
   stepped after e h = ap (update i (drop_until p)) e ∙ update-update i (drop_until p) rest lists ∙ update_same i (λ xs. drop_until p (rest xs)) (drop_until p) lists (until_rest p (lists i) h)
 
-  pub shorter : (after : ℕ → List Region) → after ≡ update i rest lists → first_passes p (lists i) ≡ true → length (after i) < length (lists i)
-  shorter after e h = omega (arith, length_rest p (lists i) h, ap length (ap (λ l. l i) e ∙ update_here i rest lists))
-
   module _ (start : ℕ → List Region) (inv : update i (drop_until p) lists ≡ update i (drop_until p) start) (passes : NoneOrPasses p (lists i)) where
     pub halted : lists ≡ update i (drop_until p) start
     halted = sym (update_fixed i (drop_until p) lists (until_fixed p (lists i) passes)) ∙ inv

@@ -20,14 +20,8 @@ loop-set-preserved g c =
     let here = ap (λ lists. length (lists i)) after ∙ ap length (update_here i rest before) in
     (omega arith, ap (update i (λ _. [])) after ∙ update-update i (λ _. []) rest before ∙ c.loop-set.invariant.1, cc)
 
-pub returns : goal.returns
-returns g c =
-    let m = g.S.StreamSet in
-    let left = m.lists c.loop-set.set in
+pub returns-clause-empty : goal.returns-clause-empty
+returns-clause-empty g c =
+    let left = g.S.StreamSet.lists c.loop-set.set in
     let none : left c.args.i ≡ [] = nil_from_first _ (ap is_some (sym c.tell.ensures.told) ∙ sym c.is_some.ensures ∙ c.loop-set-test.false) in
-    let over = ap length none in
-    record {
-      count = omega arith;
-      empty = c.tell.ensures.same ∙ sym (update_fixed c.args.i (λ _. []) left (sym none)) ∙ c.loop-set.invariant.1;
-      book = cc;
-    }
+    c.tell.ensures.same ∙ sym (update_fixed c.args.i (λ _. []) left (sym none)) ∙ c.loop-set.invariant.1

@@ -11,4 +11,4 @@ returns-clause-told c =
     let n : length self.heads ≡ 16 = search rules in
     let head : get_or self.heads c.args.i None ≡ Some c.in_ok-k.k = search rules in
     let shown : c.map.result ≡ option_map region_of c.element.result = search rules in
-    shown ∙ ap (option_map region_of) c.element.ensures ∙ sym (first_told self.view.bytes.now self.heads n c.args.i (lawful_of _ self.view.lawful) c.in_ok-k.k head)
+    shown ∙ ap (option_map region_of) c.element.ensures ∙ sym (first_told self.view.bytes.now (lawful_of _ self.view.lawful) self.heads n c.args.i c.in_ok-k.k head)
