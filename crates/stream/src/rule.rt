@@ -22,7 +22,7 @@ impl LevelRange {
     }
 }
 
-// The levels at each position.
+// At each position the levels that are kept.
 #[derive(Clone, Copy, Drop)]
 pub struct Levels {
     pub ranges: [LevelRange; POSITIONS],

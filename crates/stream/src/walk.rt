@@ -10,7 +10,7 @@ pub fn count<S: SkippingSet>(set: &mut S, i: usize) -> usize
     ensures empty { S.StreamSet.lists set.new ≡ update i (λ _. []) (S.StreamSet.lists set.old) }
     ensures book { S.StreamSet.book set.new ≡ S.StreamSet.book set.old }
 {
-    // Counted by hand, since an iterator over the set would be a struct of its own for this one call.
+    // Counted by hand: an iterator's `count` asks that it is known to end, and nothing says so of one by `iter::from_fn`.
     let mut n = 0;
     while set.tell(i).is_some() {
         set.advance(i);
