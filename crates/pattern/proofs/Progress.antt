@@ -1,7 +1,7 @@
 -- How the reader goes on: from one call of its functions to the next, what the text is read as stays the same.
-use Rattle.std.proofs.Common.{◌≡◌, ℕ, ◌+◌, Bool, true, false, cond, eqb, leb, List, [], ◌∷◌, ◌++◌, length, Ok, Err, Option, sym, refl, ap, ◌∙◌, subst, arith}
+use Rattle.std.proofs.Common.{◌≡◌, ℕ, ◌+◌, Bool, true, cond, eqb, leb, List, [], ◌∷◌, ◌++◌, length, Ok, Err, Option, sym, refl, ap, ◌∙◌, subst, arith}
 use Rattle.std.proofs.lemmas.List.{map_push, length-map}
-use Rattle.std.proofs.lemmas.Bool.{ne_eqb, cond-true, cond-false, le-leb, lt-leb}
+use Rattle.std.proofs.lemmas.Bool.{ne_eqb, cond-true, cond-false, cond_both, le-leb, lt-leb}
 use Rattle.markup.specs.declared.fault.Fault.{Fault}
 use Rattle.markup.specs.declared.fault.Refusal.TheVariants.{Misfit}
 use Rattle.pattern.specs.declared.node.Edge.{Edge}
@@ -80,9 +80,6 @@ module _ (x : Reader) (depth : ℕ) (m : Mark) (k : ℕ) (hs : List ℕ) (d : le
     pub enters_not : (z : Spot) (f : Fault) → Edged bracket y z (Err f) → outcome x m k hs step ≡ Err f
     enters_not z f b = opens ∙ b (state x m k (k ∷ hs) bracket)
 
-pub deeper : (k : ℕ) (hs : List ℕ) (depth : ℕ) → length hs ≡ depth → length (k ∷ hs) ≡ depth + 1
-deeper k hs depth d = omega arith
-
 -- a byte after a step that is neither `/` nor `[`
 beyond : (s : State) (k b : ℕ) (bs : List ℕ) → (Next (record { place = k; rest = b ∷ bs }) 47 → ⊥) → (Next (record { place = k; rest = b ∷ bs }) 91 → ⊥)
     → run_in limits (to s step) k (b ∷ bs) ≡ feed k (cond (eqb b 93) (close (to s step) s.brackets) (stop Misfit)) (λ t. run_in limits t (k + 1) bs)
@@ -106,17 +103,13 @@ pub closes_not : (x : Reader) (y : Spot) (f : Fault) → (Next x.cursor 91 → �
 closes_not x y f n a m k g gs = unclosed m _ k g gs x.cursor.place x.cursor.rest n.1 n.0 a.0 ∙ ap Err (sym a.1)
 
 -- at the end of the last step
-same_cond : {A : Type 0} (b : Bool) (x : A) → cond b x x ≡ x
-same_cond true x = refl
-same_cond false x = refl
-
 unended : (m : Mark) (vs : List Vertex) (h k : ℕ) (bs : List ℕ)
     → (Next (record { place = k; rest = bs }) 47 → ⊥) → (Next (record { place = k; rest = bs }) 91 → ⊥) → (bs ≡ [] → ⊥)
     → run_in limits (record { mark = m; nodes = vs; holder = h; brackets = []; phase = step }) k bs ≡ refused Misfit k
 unended m vs h k [] n47 n91 n = absurd (n refl)
 unended m vs h k (b ∷ bs) n47 n91 n =
     beyond (record { mark = m; nodes = vs; holder = h; brackets = []; phase = step }) k b bs n47 n91
-    ∙ ap (λ v. feed k v (λ t. run_in limits t (k + 1) bs)) (same_cond (eqb b 93) (stop Misfit))
+    ∙ ap (λ v. feed k v (λ t. run_in limits t (k + 1) bs)) (cond_both (eqb b 93) _ _ (λ v. v ≡ stop Misfit) (λ _. refl) (λ _. refl))
 
 pub ended : (x : Reader) (m : Mark) (k : ℕ) → x.cursor.rest ≡ [] → outcome x m k [] step ≡ granted m (vertices (items x.nodes))
 unfolding run_in

@@ -1,11 +1,12 @@
 -- What the writer of the spelling leans on.
-use Rattle.std.proofs.Common.{◌≡◌, ℕ, zero, suc, ◌+◌, ◌-◌, ◌<◌, ◌≤◌, Bool, true, false, eqb, List, [], ◌∷◌, ◌++◌, length, get_or, drop, is_some, Some, None, Option, sym, refl, ap, ◌∙◌, arith}
-use Rattle.std.proofs.lemmas.List.{drop_more, drop_all, append_assoc, append-nil}
-use Rattle.std.proofs.lemmas.Bool.{eq-eqb, ne_eqb, or_left, or_right, or_from}
+use Rattle.std.proofs.Common.{◌≡◌, ℕ, zero, suc, ◌+◌, ◌-◌, ◌<◌, ◌≤◌, Bool, eqb, List, ◌∷◌, ◌++◌, length, get_or, drop, is_some, Some, None, Option, sym, refl, ap, ◌∙◌, arith}
+use Rattle.std.proofs.lemmas.List.Folds.{list_any_none, list_any-from_Any}
+use Rattle.std.proofs.lemmas.List.{get_or-drop, get_or_default, length-drop, drop_more, drop_all, append_assoc, append-nil}
+use Rattle.std.proofs.lemmas.Bool.{eq-eqb, ne_eqb}
 use Rattle.pattern.specs.declared.node.Hook.{Hook}
 use Rattle.pattern.specs.declared.node.Mark.{Mark}
 use Rattle.pattern.specs.declared.node.Node.{Node}
-use Rattle.pattern.specs.Shape.{Vertex, node_at, shape}
+use Rattle.pattern.specs.Shape.{Vertex, node_at, root_a, shape}
 use Rattle.pattern.specs.Nodes.{Hung}
 use Rattle.pattern.specs.Table.{name_of, parent_of, edge_of, vertex_of, vertices}
 use Rattle.pattern.specs.Twig.{NextChild}
@@ -14,23 +15,17 @@ use Rattle.pattern.proofs.Tables.{length-vertices, get_or-vertices}
 use Rattle.pattern.proofs.Hooks.{not_root, root_only}
 
 -- a later child of p
-later_some : (p : ℕ) (vs : List Vertex) (k c : ℕ) → k ≤ c → c < length vs → (node_at vs c).parent ≡ p → later p (drop k vs) ≡ true
-later_some p [] k c le l e = absurd (omega (arith, l))
-later_some p (v ∷ vs) zero zero le l e = or_left _ _ (eq-eqb _ p e)
-later_some p (v ∷ vs) zero (suc c) le l e = or_right (eqb v.parent p) _ (later_some p vs zero c (omega arith) (omega arith) e)
-later_some p (v ∷ vs) (suc k) zero le l e = absurd (omega (arith, le))
-later_some p (v ∷ vs) (suc k) (suc c) le l e = later_some p vs k c (omega arith) (omega arith) e
-
-later_none : (p : ℕ) (vs : List Vertex) (k : ℕ) → ((c : ℕ) → k ≤ c → c < length vs → (node_at vs c).parent ≡ p → ⊥) → later p (drop k vs) ≡ false
-later_none p [] zero h = refl
-later_none p [] (suc k) h = refl
-later_none p (v ∷ vs) zero h =
-    or_from (eqb v.parent p) _ (ne_eqb _ p (λ e. h 0 (omega arith) (omega arith) e)) (later_none p vs 0 (λ c le l e. h (suc c) (omega arith) (omega arith) e))
-later_none p (v ∷ vs) (suc k) h = later_none p vs k (λ c le l e. h (suc c) (omega arith) (omega arith) e)
-
 pub later_next : (p : ℕ) (vs : List Vertex) (k : ℕ) (o : Option ℕ) → NextChild vs p k o → is_some o ≡ later p (drop (k + 1) vs)
-later_next p vs k (Some c) h = sym (later_some p vs (k + 1) c (omega (arith, h.1)) h.0.there h.0.hangs)
-later_next p vs k None h = sym (later_none p vs (k + 1) (λ c le l e. let x : k < c = omega arith in h c x (record { other = omega arith; there = l; hangs = e })))
+later_next p vs k (Some c) h =
+    let j = c - (k + 1) in
+    let z : k + 1 + j ≡ c = omega (arith, h.1) in
+    let there : j < length (drop (k + 1) vs) = omega (arith, length-drop (k + 1) vs, h.1, h.0.there) in
+    let is : get_or (drop (k + 1) vs) j (node_at vs c) ≡ node_at vs c = get_or-drop (k + 1) vs j _ ∙ ap (λ i. get_or vs i (node_at vs c)) z ∙ get_or_default vs c _ root_a h.0.there in
+    sym (list_any-from_Any (λ (v : Vertex). eqb v.parent p) (drop (k + 1) vs) (j, node_at vs c, there, is, eq-eqb _ p h.0.hangs))
+later_next p vs k None h =
+    sym (list_any_none (λ (v : Vertex). eqb v.parent p) (drop (k + 1) vs) (λ j d lt. ne_eqb _ p (λ e.
+    let there : k + 1 + j < length vs = omega (arith, length-drop (k + 1) vs, lt) in
+    h (k + 1 + j) (omega arith) (record { other = omega arith; there = there; hangs = ap (λ (v : Vertex). v.parent) (get_or_default vs (k + 1 + j) root_a d there ∙ sym (get_or-drop (k + 1) vs j d)) ∙ e }))))
 
 -- what is left to write before node k, where vs are the nodes from k on
 abbrev pub to_write : Mark → ℕ → List Vertex → List ℕ

@@ -11,6 +11,7 @@ abbrev pub Hung : List Node → Type 0
 Hung [] = Unit {0}
 Hung (root ∷ others) = IsNone root.hook × All (λ (n : Node). IsSome n.hook) others
 
+-- all proofs of it are equal, so a ghost field may hold it
 pub Hung-prop : (nodes : List Node) → IsProp (Hung nodes)
 Hung-prop [] = Unit-prop
 Hung-prop (root ∷ others) = ×_prop (Bool-set _ _) (λ x y i k d lt. Bool-set _ _ (x k d lt) (y k d lt) i)

@@ -6,7 +6,7 @@ use Rattle.pattern.specs.Reading.{edge, step}
 use Rattle.pattern.specs.Table.{parent_of, edge_of, items}
 use Rattle.pattern.specs.Moves.{outcome}
 use Rattle.pattern.proofs.Steps.{taken, shorter}
-use Rattle.pattern.proofs.Progress.{state, begun, begun_not, onward, opened, opens_not, enters, enters_not, closes_not, deeper}
+use Rattle.pattern.proofs.Progress.{state, begun, begun_not, onward, opened, opens_not, enters, enters_not, closes_not}
 use Rattle.pattern.proofs.reader.Reader.+branch_step.Goals as goal
 use Rattle.pattern.proofs.reader.Reader.+branch_step.Goals.{step-In_ok-edge, step-In_ok-branch}
 
@@ -93,12 +93,12 @@ step-returns-in_err-branch-clause-told t c =
     let r = c.from_residual-in_err-branch in
     let p = err_from_is_err_and r.result r.ensures.1 in
     let f = goal.at.step-returns-in_err-branch-clause-told t c in
-    rw (p.1, p.2) (λ m hs d. entered t f.In_ok-edge m hs d ∙ c.in_err-branch.ensures.told m (c.push-node.result ∷ hs) (deeper c.push-node.result hs _ d))
+    rw (p.1, p.2) (λ m hs d. entered t f.In_ok-edge m hs d ∙ c.in_err-branch.ensures.told m (c.push-node.result ∷ hs) (omega (arith, d)))
 
 crossed : (t : ℕ) (c : step-In_ok-branch t) (m : Mark) (hs : List ℕ) → length hs ≡ c.args.depth
     → outcome c.args.self.now m (parent_of c.args.hook) hs (edge (edge_of c.args.hook)) ≡ outcome c.branch-self.new.self m c.in_ok-branch.field-0 (c.push-node.result ∷ hs) step
 crossed t c m hs d =
-    entered t (goal.at.step-In_ok-branch t c).In_ok-edge m hs d ∙ c.in_ok-branch.ensures.told.3 m (c.push-node.result ∷ hs) (deeper c.push-node.result hs _ d)
+    entered t (goal.at.step-In_ok-branch t c).In_ok-edge m hs d ∙ c.in_ok-branch.ensures.told.3 m (c.push-node.result ∷ hs) (omega (arith, d))
 
 pub step-loop-self-preserved : goal.step-loop-self-preserved
 step-loop-self-preserved t c =
