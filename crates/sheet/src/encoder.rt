@@ -80,6 +80,7 @@ impl<'a> Contents<'a> {
         ensures puts { table.new ≡ element_table self.now.elements.now 0 }
         ensures first { (n : ℕ) → n < 1024 → slice_index result n ≡ seek n self.now.elements.now 0 }
     {
+        // The count of elements stands for none, as it does in the sheet.
         let mut nearest = [self.elements.len() as u32; MOST_NAMES];
         for (k, e) in self.elements.iter().enumerate().rev() {
             let name = e.name as usize;
