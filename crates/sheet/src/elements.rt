@@ -12,11 +12,12 @@ use arrayvec::ArrayVec;
 use markup::{Fault, Refusal};
 use tree::limits::{LAST_END, MOST_LEVELS, MOST_NAMES};
 
-// The lowest element whose next is wrong, and each name's first element; the count of elements where there is none, as
-// the records have it.
+// What the elements' names and nexts tell.
 #[derive(Drop)]
 pub(crate) struct Links {
+    // The lowest element whose next is wrong.
     pub(crate) wrong: Option<u32>,
+    // Each name's first element. Where there is none it is the count of elements, as in the records that it is compared with.
     pub(crate) first: [u32; MOST_NAMES],
 }
 
@@ -40,7 +41,7 @@ pub(crate) fn read_links(records: &Records) -> Links
     Links { wrong, first }
 }
 
-// Closes those of the open elements that end below the start of element k.
+// Closes those of the open elements, `stack`, outermost first, that end below the start of element k.
 fn close(records: &Records, stack: &mut ArrayVec<u32, MOST_LEVELS>, k: u32)
     requires within { k < element_count records.now.bytes.now }
     requires opened { Stack (region_at records.now.bytes.now) k (region_at records.now.bytes.now k).start stack.old.items }
@@ -55,7 +56,7 @@ fn close(records: &Records, stack: &mut ArrayVec<u32, MOST_LEVELS>, k: u32)
     }
 }
 
-// Opens element k within those before it that are open around it, where its region fits among those before it.
+// Opens element k within those of the open elements that do not end before it, where its region fits among those before it.
 fn place(records: &Records, stack: &mut ArrayVec<u32, MOST_LEVELS>, k: u32) -> bool
     requires within { k < element_count records.now.bytes.now }
     requires before { Each (Fits (region_at records.now.bytes.now)) k }

@@ -1,8 +1,7 @@
 // Checks the name records of a sheet.
-ghost use Rattle.std.specs.Prelude.{◌≡◌, ℕ, ◌+◌, ◌*◌, ◌<◌, ◌≤◌, length, MatchBool, MatchResult, ◌≢◌};
-ghost use Rattle.markup.specs.Name.{LawfulName};
-ghost use Rattle.layout.specs.Layout.{element_count, name_count, byte_count, name_at, name_text};
-ghost use Rattle.layout.specs.Lawful.{FirstNamed, RightElement, RightName, names_end};
+ghost use Rattle.std.specs.Prelude.{◌≡◌, ℕ, ◌+◌, ◌<◌, ◌≤◌, length, MatchBool, MatchResult, ◌≢◌};
+ghost use Rattle.layout.specs.Layout.{element_count, name_count, byte_count, name_text};
+ghost use Rattle.layout.specs.Lawful.{RightElement, RightName, names_end};
 ghost use Rattle.sheet.specs.Opening.{WrongName, Each};
 ghost use Rattle.sheet.specs.Links.{Firsts, key_of, CheckedNames};
 

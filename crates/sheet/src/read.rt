@@ -1,4 +1,4 @@
-// Reads numbers at their offsets among the bytes of a sheet.
+// Reads numbers at their offsets among the bytes of a sheet: the two sizes of the format, by two methods of `byteorder`.
 ghost use Rattle.std.specs.Prelude.{◌≡◌, ◌+◌, ◌≤◌, length};
 ghost use Rattle.layout.specs.Layout.{u16_at, u32_at};
 

@@ -45,6 +45,7 @@ impl<'b> SheetView<'b> {
         Ok(())
     }
 
+    // The records of the sheet.
     fn records(&self) -> Records<'b>
         ensures { result.bytes.now ≡ self.now.bytes.now }
     {
