@@ -31,7 +31,7 @@ returns-then-names-byte_count c =
     let bs = c.args.records.now.bytes.now in
     let checked = checked_of _ c.loop-j.names.first.now c.loop-j.names.keys.items c.loop-j.names.end c.loop-j.names.checked in
     let all = all_checked bs c.loop-j.names.first.now c.loop-j.names.keys.items c.loop-j.names.end (rw c.loop-j.invariant.0 at checked) (omega arith) in
-    (sized_of bs c.args.records.now.sized, c.requires.elements, inr (c.at-then-names-byte_count.ensures ∙ ap (fault NameRecord) c.bytes_offset.ensures, all.0, λ e. c.if-names-byte_count.true (omega arith)))
+    (sized_of bs c.args.records.now.sized, c.requires.elements, inr (c.at-then-names-byte_count.ensures ∙ ap (fault NameRecord) c.bytes_offset.ensures, all.0, λ e. omega arith))
 
 pub returns : goal.returns
 returns c =
