@@ -1,6 +1,5 @@
 // A place in a pattern text, and what is read there byte by byte.
 ghost use Rattle.std.specs.Prelude.{◌≡◌, Ok};
-ghost use Rattle.markup.specs.Faults.{fault};
 ghost use Rattle.pattern.specs.Reading.{bracket, slash};
 ghost use Rattle.pattern.specs.Moves.{begins_name, Accepted, Passed, Opened, Led, Edged, Named, Ended};
 
@@ -43,13 +42,6 @@ impl<'a> Cursor<'a> {
         }
     }
 
-    // The refusal, at the next byte.
-    fn refuse(&self, refusal: Refusal) -> Fault
-        ensures { result ≡ fault refusal self.now.place }
-    {
-        refusal.at(self.place)
-    }
-
     // Passes over `b` if it comes next; whether it does.
     pub(crate) fn accept(&mut self, b: u8) -> bool
         ensures { Accepted b self.old self.new result }
@@ -69,7 +61,7 @@ impl<'a> Cursor<'a> {
         ensures { Passed b self.old self.new result }
     {
         if !self.accept(b) {
-            return Err(self.refuse(Refusal::Misfit));
+            return Err(Refusal::Misfit.at(self.place));
         }
         Ok(())
     }
@@ -111,12 +103,12 @@ impl<'a> Cursor<'a> {
     pub(crate) fn open(&mut self, depth: usize) -> Result<bool, Fault>
         ensures { Opened depth self.old self.new result }
     {
-        let refusal = self.refuse(Refusal::TooManySteps);
+        let place = self.place;
         if !self.accept(b'[') {
             return Ok(false);
         }
         if depth >= MOST_BRACKETS {
-            return Err(refusal);
+            return Err(Refusal::TooManySteps.at(place));
         }
         Ok(true)
     }
@@ -133,10 +125,10 @@ impl<'a> Cursor<'a> {
         ensures { Named is_full self.old self.new result }
     {
         if !self.begins_name() {
-            return Err(self.refuse(Refusal::Misfit));
+            return Err(Refusal::Misfit.at(self.place));
         }
         if is_full {
-            return Err(self.refuse(Refusal::TooManySteps));
+            return Err(Refusal::TooManySteps.at(self.place));
         }
         let len = scan::run::<NameBytes>(self.rest);
         if len > name::MOST_BYTES {
@@ -153,7 +145,7 @@ impl<'a> Cursor<'a> {
         ensures { Ended self.now result }
     {
         if !self.rest.is_empty() {
-            return Err(self.refuse(Refusal::Misfit));
+            return Err(Refusal::Misfit.at(self.place));
         }
         Ok(())
     }

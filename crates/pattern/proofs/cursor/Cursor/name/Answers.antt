@@ -1,24 +1,31 @@
-use Rattle.std.proofs.Common.{◌≡◌, true, Err, sym, ap, ◌∙◌, arith, rules}
+use Rattle.std.proofs.Common.{◌≡◌, false, true, Err, sym, ap, ◌∙◌, arith, rules}
 use Rattle.pattern.specs.Moves.{begins_name}
 use Rattle.pattern.proofs.Steps.{name_not, name_full, name_too_long, name_read, name_some}
 use Rattle.pattern.proofs.cursor.Cursor.name.Goals as goal
+use Rattle.pattern.proofs.cursor.Cursor.name.Goals.{Else-not-begins_name}
+
+-- what `begins_name` answered, of the bytes left
+begun : (c : Else-not-begins_name) → begins_name c.self.inside.rest.now ≡ true
+begun c = (λ i. begins_name (c.self.view_is i).rest) ∙ sym c.begins_name.ensures ∙ c.if-not-begins_name.false
 
 pub returns-then-not-begins_name : goal.returns-then-not-begins_name
-returns-then-not-begins_name c s e room =
-    name_not s e _ _ (sym c.begins_name.ensures ∙ c.if-not-begins_name.true) ∙ ap Err (sym c.refuse.ensures)
+returns-then-not-begins_name c =
+    let b : begins_name c.self.inside.rest.now ≡ false = (λ i. begins_name (c.self.view_is i).rest) ∙ sym c.begins_name.ensures ∙ c.if-not-begins_name.true in
+    rw (← c.self.view_is) (λ s e room. name_not s e _ _ b ∙ ap Err (sym c.at.ensures))
 
 pub returns-then-is_full : goal.returns-then-is_full
-returns-then-is_full c s e room =
-    name_full s e _ _ (sym c.begins_name.ensures ∙ c.if-not-begins_name.false) (room ∙ c.if-is_full.true) ∙ ap Err (sym c.refuse-then-is_full.ensures)
+returns-then-is_full c =
+    let b = begun (goal.at.returns-then-is_full c).Else-not-begins_name in
+    rw (← c.self.view_is) (λ s e room. name_full s e _ _ b (room ∙ c.if-is_full.true) ∙ ap Err (sym c.at-then-is_full.ensures))
 
 pub returns-then-len-gt-MOST_BYTES : goal.returns-then-len-gt-MOST_BYTES
 returns-then-len-gt-MOST_BYTES c =
-    let b : begins_name c.self.inside.rest.now ≡ true = (λ i. begins_name (c.self.view_is i).rest) ∙ sym c.begins_name.ensures ∙ c.if-not-begins_name.false in
-    rw (← c.self.view_is) (λ s e room. name_too_long s e _ _ _ b (room ∙ c.if-is_full.false) (sym c.run-len.ensures.value) c.if-len-gt-MOST_BYTES.true ∙ ap Err (sym c.at.ensures))
+    let b = begun (goal.at.returns-then-len-gt-MOST_BYTES c).Else-not-begins_name in
+    rw (← c.self.view_is) (λ s e room. name_too_long s e _ _ _ b (room ∙ c.if-is_full.false) (sym c.run-len.ensures.value) c.if-len-gt-MOST_BYTES.true ∙ ap Err (sym c.at-then-len-gt-MOST_BYTES.ensures))
 
 pub returns : goal.returns
 returns c =
-    let b : begins_name c.self.inside.rest.now ≡ true = (λ i. begins_name (c.self.view_is i).rest) ∙ sym c.begins_name.ensures ∙ c.if-not-begins_name.false in
+    let b = begun (goal.at.returns c).Else-not-begins_name in
     let some = name_some c.self.inside.rest.now b in
     rw (← c.self.view_is) (
       omega (arith, some, c.run-len.ensures.value, c.run-len.ensures.within, c.split_at.ensures.back_len),
