@@ -1,5 +1,5 @@
 // The name of a node.
-ghost use Rattle.std.specs.Prelude.{◌≤◌};
+ghost use Rattle.std.specs.Prelude.{◌<◌, ◌≤◌};
 
 use markup::name;
 
@@ -9,6 +9,7 @@ use markup::name;
 pub(crate) struct Name {
     bytes: [u8; name::MOST_BYTES],
     len: usize,
+    ghost some: { 0 < len },
     ghost short: { len ≤ 32 },
 }
 
@@ -18,7 +19,8 @@ impl Name {
 
     // A name of these bytes.
     pub(crate) fn new(text: &[u8]) -> Name
-        requires { length text.now ≤ 32 }
+        requires some { 0 < length text.now }
+        requires short { length text.now ≤ 32 }
         ensures { name_of result ≡ text.now }
     {
         let mut bytes = [0; name::MOST_BYTES];

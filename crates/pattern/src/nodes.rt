@@ -28,8 +28,9 @@ impl Nodes {
     pub(crate) fn new() -> Nodes
         ensures { items result ≡ [] }
     {
+        // Fills the unused places.
         let blank = Node {
-            name: Name::new(b""),
+            name: Name::new(b"a"),
             hook: None,
         };
         Nodes {

@@ -23,6 +23,11 @@ returns-then-len-gt-MOST_BYTES c =
     let b = begun (goal.at.returns-then-len-gt-MOST_BYTES c).Else-not-begins_name in
     rw (← c.self.view_is) (λ s e room. name_too_long s e _ _ _ b (room ∙ c.if-is_full.false) (sym c.run-len.ensures.value) c.if-len-gt-MOST_BYTES.true ∙ ap Err (sym c.at-then-len-gt-MOST_BYTES.ensures))
 
+pub new-requires-clause-some : goal.new-requires-clause-some
+new-requires-clause-some c =
+    let b = begun (goal.at.new-requires-clause-some c).Else-not-begins_name in
+    omega (arith, name_some c.self.inside.rest.now b, c.run-len.ensures.value, c.split_at.ensures.front_len)
+
 pub returns : goal.returns
 returns c =
     let b = begun (goal.at.returns c).Else-not-begins_name in
