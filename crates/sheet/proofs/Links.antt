@@ -9,7 +9,7 @@ use Rattle.layout.proofs.Firsts.{first_unique, first_none, first_yes, first_no}
 use Rattle.sheet.specs.Links.{RightNext, RightLink, LinkedFrom, Firsts}
 
 pub linked_none : (bs : List ℕ) (m : ℕ) → m ≡ element_count bs → LinkedFrom bs m None
-linked_none bs m e = λ k h l. absurd (omega arith)
+linked_none bs m e = grind arith
 
 pub firsts_none : (bs : List ℕ) (m : ℕ) → m ≡ element_count bs → Firsts bs m (replicate 1024 m)
 firsts_none bs m e n h =
@@ -42,12 +42,8 @@ module _ (bs : List ℕ) (k m x : ℕ) (h : k < element_count bs) (next : m ≡ 
   right_more n i a l s = ⊎_elim (λ (e : i ≡ k). rw e (n (rw (← e) s))) (λ (ne : i ≡ k → ⊥). a (omega arith) s) (cases_eq i k)
 
   linked_more : (w : Option ℕ) → ((element_at bs k).name < 1024 → RightNext bs k) → LinkedFrom bs m w → LinkedFrom bs k w
-  linked_more None n a = λ i l. right_more n i (a i l)
-  linked_more (Some w) n a = record {
-    within = a.within;
-    before = λ i l. right_more n i (a.before i l);
-    here = λ r. a.here (λ l s. r (omega arith) s);
-  }
+  linked_more None n a = grind arith
+  linked_more (Some w) n a = record { within = a.within; before = λ i l. right_more n i (a.before i l); here = grind arith }
 
   pub linked_other : (w : Option ℕ) → 1024 ≤ x → LinkedFrom bs m w → LinkedFrom bs k w
   linked_other w big a = linked_more w (λ s. absurd (omega arith)) a
@@ -69,8 +65,6 @@ module _ (bs : List ℕ) (k m x : ℕ) (h : k < element_count bs) (next : m ≡ 
 pub right_numbers : (bs : List ℕ) (k : ℕ) (wrong : Option ℕ) (r : Bool) → r ≡ not (option_eq eqb wrong (Some k)) → LinkedFrom bs 0 wrong → IfSome wrong (λ w. k ≤ w)
     → k < element_count bs → (element_at bs k).name < 1024 → (element_at bs k).name < name_count bs → (element_at bs k).name ≤ used bs k
     → MatchBool r (RightNumbers bs k × IfSome wrong (λ w. k < w)) (RightNumbers bs k → ⊥)
-right_numbers bs k None r e a b h small named fresh = rw e (record { named = named; fresh = fresh; next = a k h (omega arith) small }, tt)
+right_numbers bs k None r e a b h small named fresh = grind arith
 right_numbers bs k (Some w) r e a b h small named fresh =
-    ⊎_elim (λ (p : w ≡ k). rw (e, eq-eqb w k p) (λ n. a.here (λ _ _. subst (RightNext bs) (sym p) n.next)))
-    (λ (p : w ≡ k → ⊥). rw (e, ne_eqb w k p) (record { named = named; fresh = fresh; next = a.before k (omega arith) (omega arith) small }, omega arith))
-    (cases_eq w k)
+    ⊎_elim (λ (p : w ≡ k). rw (e, eq-eqb w k p) (λ n. a.here (grind arith))) (λ (p : w ≡ k → ⊥). rw (e, ne_eqb w k p) (grind arith)) (cases_eq w k)
