@@ -1,5 +1,5 @@
 -- The pass from the back over the elements' next numbers.
-use Rattle.std.proofs.Common.{◌≡◌, ℕ, ◌+◌, ◌<◌, ◌≤◌, ◌≢◌, List, Option, Some, None, Bool, not, eqb, IfSome, MatchBool, length, get_or, set, replicate, sym, ◌∙◌, subst, ⊎_elim, arith}
+use Rattle.std.proofs.Common.{◌≡◌, ℕ, ◌+◌, ◌<◌, ◌≤◌, List, Option, Some, None, Bool, not, eqb, IfSome, MatchBool, length, get_or, set, replicate, subst, ⊎_elim, arith}
 use Rattle.std.proofs.lemmas.List.{get_or-set_same, get_or-set_other, get_or-replicate}
 use Rattle.std.proofs.lemmas.Bool.{cases_eq, eq-eqb, ne_eqb}
 use Rattle.std.specs.Option.{option_eq}
@@ -19,24 +19,14 @@ firsts_none bs m e n h =
 -- element k, where those from m on are done and x is its name number
 module _ (bs : List ℕ) (k m x : ℕ) (h : k < element_count bs) (next : m ≡ k + 1) (is : x ≡ (element_at bs k).name) (table : List ℕ) (f : Firsts bs m table) where
   pub firsts_other : 1024 ≤ x → Firsts bs k table
-  firsts_other big n l = first_no (λ i. (element_at bs i).name) (element_count bs) n k (get_or table n 0) (λ e. omega arith) (rw next at (f n l))
+  firsts_other big n l = grind (arith, first_no)
 
   pub firsts_set : length table ≡ 1024 → x < 1024 → Firsts bs k (set table x k)
-  firsts_set size small n l =
-      ⊎_elim
-      (λ (e : n ≡ x).
-      let g : get_or (set table x k) n 0 ≡ k = rw e (get_or-set_same table x k 0 (omega arith)) in
-      rw g (first_yes (λ i. (element_at bs i).name) (element_count bs) n k h (sym is ∙ sym e)))
-      (λ (ne : n ≢ x).
-      let g : get_or (set table x k) n 0 ≡ get_or table n 0 = get_or-set_other table x n k 0 ne in
-      rw g (first_no (λ i. (element_at bs i).name) (element_count bs) n k (get_or table n 0) (λ e. ne (sym e ∙ sym is)) (rw next at (f n l))))
-      (cases_eq n x)
+  firsts_set size small n l = grind (arith, get_or-set_same, get_or-set_other, first_yes, first_no)
 
   -- the table has the nearest later element with k's name
   nearest : x < 1024 → FirstNamed bs (element_at bs k).name (k + 1) (get_or table x 0)
-  nearest small =
-      subst (λ (n : ℕ). FirstNamed bs n (k + 1) (get_or table x 0)) is
-      (subst (λ (n : ℕ). FirstNamed bs x n (get_or table x 0)) next (f x small))
+  nearest small = grind arith
 
   right_more : ((element_at bs k).name < 1024 → RightNext bs k) → (i : ℕ) → RightLink bs m i → RightLink bs k i
   right_more n i a l s = ⊎_elim (λ (e : i ≡ k). rw e (n (rw (← e) s))) (λ (ne : i ≡ k → ⊥). a (omega arith) s) (cases_eq i k)
@@ -49,16 +39,13 @@ module _ (bs : List ℕ) (k m x : ℕ) (h : k < element_count bs) (next : m ≡ 
   linked_other w big a = linked_more w (λ s. absurd (omega arith)) a
 
   pub linked_right : (w : Option ℕ) (v : ℕ) → x < 1024 → v ≡ next_at bs k → v ≡ get_or table x 0 → LinkedFrom bs m w → LinkedFrom bs k w
-  linked_right w v small p q a =
-      linked_more w (λ _. subst (λ (j : ℕ). FirstNamed bs (element_at bs k).name (k + 1) j) (sym q ∙ p) (nearest small)) a
+  linked_right w v small p q a = linked_more w (grind (arith, nearest)) a
 
   pub linked_wrong : (v : ℕ) → x < 1024 → v ≡ next_at bs k → (v ≡ get_or table x 0 → ⊥) → LinkedFrom bs k (Some k)
   linked_wrong v small p q = record {
     within = h;
     before = λ i l s. absurd (omega arith);
-    here = λ r.
-        q (p ∙ first_unique (λ i. (element_at bs i).name) (element_count bs) (element_at bs k).name (k + 1) (next_at bs k) (get_or table x 0)
-        (r (omega arith) (omega arith)) (nearest small));
+    here = grind (arith, first_unique, nearest);
   }
 
 -- the numbers of element k, where its name number is right, and wrong is the lowest element whose next is wrong

@@ -6,15 +6,9 @@ use Rattle.layout.specs.Layout.{region_at}
 use Rattle.sheet.specs.Stack.{Stack, last_start}
 use Rattle.sheet.proofs.Stacks.{right_depth, right_region, pushed}
 use Rattle.sheet.proofs.elements.place.Goals as goal
-use Rattle.sheet.proofs.elements.place.Goals.{in_default-via-in-None-1, in_default-via-in-Some+else-element-e}
 
 pub returns-then-depth-e : goal.returns-then-depth-e
-returns-then-depth-e c ok =
-    let bs = c.args.records.now.bytes.now in
-    let st = c.close.new.stack.items in
-    let level = ap (λ (x : Element). x.level) c.element-e.ensures in
-    let q = right_depth (region_at bs) c.args.k st c.requires.before c.close.ensures.opened c.close.ensures.top ok in
-    search rules
+returns-then-depth-e c ok = grind (arith, right_depth (region_at c.args.records.now.bytes.now) c.args.k c.close.new.stack.items c.requires.before c.close.ensures.opened c.close.ensures.top ok)
 
 pub returns-2 : goal.returns-2
 returns-2 c =
