@@ -1,8 +1,5 @@
 pub mod Props
 pub mod Sizes
-pub mod Words
-pub mod Headers
-pub mod Viewed
 pub mod Parts
 pub mod Fields
 pub mod Stacks
@@ -11,3 +8,6 @@ pub mod Naming
 pub mod Opening
 pub mod First
 pub mod Promises
+pub mod Words
+pub mod Headers
+pub mod Viewed
