@@ -10,7 +10,7 @@ use Rattle.std.proofs.lemmas.Bool.Decides.{Decides-eqb, same_from_decides}
 use Rattle.std.proofs.lemmas.List.{map_push}
 use Rattle.std.proofs.lemmas.List.Sums.{prefix_len-le-length}
 use Rattle.indexmap.specs.IndexSet.{insert_key}
-use Rattle.book.specs.Parts.{bytes_of}
+use Rattle.tree.specs.Tree.{bytes_of}
 use Rattle.book.specs.Document.{position, intern}
 
 module _ (name : List ℕ) where

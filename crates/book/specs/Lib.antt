@@ -1,4 +1,3 @@
-pub mod Parts
 pub mod Document
 pub mod Reading
 pub mod Refusing

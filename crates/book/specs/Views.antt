@@ -7,7 +7,7 @@ use Rattle.tree.specs.Tree.{Tree}
 use Rattle.book.specs.declared.book.Book.{Book}
 use Rattle.book.specs.declared.reader.Open.{Open}
 use Rattle.book.specs.declared.reader.Reader.TheInside.{Inside}
-use Rattle.book.specs.Parts.{bytes_of}
+use Rattle.tree.specs.Tree.{bytes_of}
 use Rattle.book.specs.Reading.{OpenElement, State}
 
 -- an error is the refusal that the definition gives, or want of memory

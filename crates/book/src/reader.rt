@@ -122,7 +122,8 @@ impl<'t> Reader<'t> {
         })
     }
 
-    // A start tag: its element is open from here on.
+    // A start tag: its element is open from here on. Name and place go apart, here and below, since a struct of the two would be taken
+    // apart at once.
     fn start(&mut self, name: &'t [u8], place: u32) -> Result<(), Error>
         ensures { Answers (step self.old place (Item.start name.now)) result (λ _. self.new) }
     {

@@ -43,7 +43,7 @@ pub enum Refusal {
 }
 
 impl Refusal {
-    // The number that a refusal is reported under.
+    // The number that a refusal is reported under. A method, since a `From<Refusal> for u8` would not say which number it is.
     pub fn number(self) -> u8
         ensures { result ≡ number_of self }
     {
@@ -86,6 +86,7 @@ pub enum Error {
     Memory,
 }
 
+// The conversions for `?` are written out, since a derived one does not say in a contract what it gives.
 impl From<Fault> for Error {
     ghost from_gives = { λ f r. r ≡ Refused f };
 
@@ -94,6 +95,7 @@ impl From<Fault> for Error {
     }
 }
 
+// One for each of std's two errors of want of memory: `From` goes by type.
 impl From<AllocError> for Error {
     ghost from_gives = { λ _ r. r ≡ Memory };
 

@@ -12,7 +12,8 @@ use Rattle.markup.specs.declared.fault.Refusal.TheVariants.{ElementRecord, NameR
 use Rattle.markup.specs.Faults.{fault, and_then}
 use Rattle.tree.specs.declared.element.Element.{Element}
 use Rattle.layout.specs.Encoding.{blank, joint}
-use Rattle.sheet.specs.Writing.{texts, each_fits, numbers_fit, names_fit, fields_fit}
+use Rattle.sheet.specs.Writing.{each_fits, numbers_fit, names_fit, fields_fit}
+use Rattle.tree.specs.Tree.{bytes_of}
 
 module _ {A : Type 0} (p : A → Bool) (r : Refusal) (size : ℕ) where
   -- all fit where none is too large
@@ -41,10 +42,10 @@ module _ {A : Type 0} (p : A → Bool) (r : Refusal) (size : ℕ) where
 abbrev pub long : Bor (List ℕ) → Bool
 long x = ltb 32 (length x.now)
 
-pub length-texts : (xs : List (Bor (List ℕ))) → length (texts xs) ≡ length xs
-length-texts xs = length-map xs (λ x. x.now)
+pub length-bytes_of : (xs : List (Bor (List ℕ))) → length (bytes_of xs) ≡ length xs
+length-bytes_of xs = length-map xs (λ x. x.now)
 
-lent_fit : (xs : List (Bor (List ℕ))) (o : ℕ) → names_fit (texts xs) o ≡ each_fits long NameRecord 12 xs o
+lent_fit : (xs : List (Bor (List ℕ))) (o : ℕ) → names_fit (bytes_of xs) o ≡ each_fits long NameRecord 12 xs o
 lent_fit [] o = refl
 lent_fit (x ∷ xs) o = ap (cond (long x) (Err (fault NameRecord o))) (lent_fit xs (o + 12))
 
@@ -66,40 +67,40 @@ numbers_by : (n : ℕ) (es : List Element) (i : Option ℕ) → position (misnum
 numbers_by n es i p = fit_by (misnumbered n) ElementRecord 16 es 32 ∙ ap (refused_at (misnumbered n) ElementRecord 16 32) p
 
 names_by : (xs : List (Bor (List ℕ))) (o : ℕ) (j : Option ℕ) → position long xs ≡ j
-    → names_fit (texts xs) o ≡ refused_at long NameRecord 12 o j
+    → names_fit (bytes_of xs) o ≡ refused_at long NameRecord 12 o j
 names_by xs o j p = lent_fit xs o ∙ (fit_by long NameRecord 12 xs o ∙ ap (refused_at long NameRecord 12 o) p)
 
 module _ (es : List Element) (xs : List (Bor (List ℕ))) (few : length es ≤ 65535) (few_names : length xs ≤ 1024) where
-  counts_fit : fields_fit es (texts xs) ≡ and_then (numbers_fit (length xs) es 32) (λ _. names_fit (texts xs) (32 + 16 * length es))
+  counts_fit : fields_fit es (bytes_of xs) ≡ and_then (numbers_fit (length xs) es 32) (λ _. names_fit (bytes_of xs) (32 + 16 * length es))
   counts_fit =
       cond-false _ _ _ (le-ltb _ _ few)
-      ∙ (cond-false _ _ _ (le-ltb 1024 (length (texts xs)) (omega (arith, length-texts xs)))
-      ∙ ap (λ (n : ℕ). and_then (numbers_fit n es 32) (λ _. names_fit (texts xs) (32 + 16 * length es))) (length-texts xs))
+      ∙ (cond-false _ _ _ (le-ltb 1024 (length (bytes_of xs)) (omega (arith, length-bytes_of xs)))
+      ∙ ap (λ (n : ℕ). and_then (numbers_fit n es 32) (λ _. names_fit (bytes_of xs) (32 + 16 * length es))) (length-bytes_of xs))
 
-  pub number_refused : (k : ℕ) → position (misnumbered (length xs)) es ≡ Some k → fields_fit es (texts xs) ≡ Err (fault ElementRecord (32 + 16 * k))
+  pub number_refused : (k : ℕ) → position (misnumbered (length xs)) es ≡ Some k → fields_fit es (bytes_of xs) ≡ Err (fault ElementRecord (32 + 16 * k))
   unfolding refused_at
   number_refused k p = counts_fit ∙ rw (numbers_by (length xs) es (Some k) p) refl
 
   module _ (numbered : position (misnumbered (length xs)) es ≡ None) where
-    pub name_refused : (j : ℕ) → position long xs ≡ Some j → fields_fit es (texts xs) ≡ Err (fault NameRecord (32 + 16 * length es + 12 * j))
+    pub name_refused : (j : ℕ) → position long xs ≡ Some j → fields_fit es (bytes_of xs) ≡ Err (fault NameRecord (32 + 16 * length es + 12 * j))
     unfolding refused_at
     name_refused j p = counts_fit ∙ rw (numbers_by (length xs) es None numbered, names_by xs (32 + 16 * length es) (Some j) p) refl
 
-    pub none_refused : position long xs ≡ None → fields_fit es (texts xs) ≡ Ok tt
+    pub none_refused : position long xs ≡ None → fields_fit es (bytes_of xs) ≡ Ok tt
     unfolding refused_at
     none_refused p = counts_fit ∙ rw (numbers_by (length xs) es None numbered, names_by xs (32 + 16 * length es) None p) refl
 
 -- The length of all names.
 
-pub sum_texts : (xs : List (Bor (List ℕ))) → sum_by (λ x. length x.now) xs ≡ length (joint (texts xs))
+pub sum_texts : (xs : List (Bor (List ℕ))) → sum_by (λ x. length x.now) xs ≡ length (joint (bytes_of xs))
 sum_texts xs = sym (ap length (flat xs) ∙ length-flat_map (λ x. x.now) xs)
   where
-    flat : (xs : List (Bor (List ℕ))) → joint (texts xs) ≡ flat_map (λ x. x.now) xs
+    flat : (xs : List (Bor (List ℕ))) → joint (bytes_of xs) ≡ flat_map (λ x. x.now) xs
     flat [] = refl
     flat (x ∷ xs) = ap (λ (bs : List ℕ). x.now ++ bs) (flat xs)
 
 pub sum_texts_le : (xs : List (Bor (List ℕ))) → length xs ≤ 1024 → All (λ x. length x.now ≤ 32) xs → sum_by (λ x. length x.now) xs ≤ 32768
 sum_texts_le xs few short = omega (arith, sum_by-le (λ x. length x.now) 32 xs short)
 
-pub joint_le : (xs : List (Bor (List ℕ))) → length xs ≤ 1024 → All (λ x. length x.now ≤ 32) xs → length (joint (texts xs)) ≤ 32768
+pub joint_le : (xs : List (Bor (List ℕ))) → length xs ≤ 1024 → All (λ x. length x.now ≤ 32) xs → length (joint (bytes_of xs)) ≤ 32768
 joint_le xs few short = omega (arith, sum_texts_le xs few short, sum_texts xs)

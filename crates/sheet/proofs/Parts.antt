@@ -8,8 +8,8 @@ use borrow.Rule.Slice.PartMut.{put_mid}
 use Rattle.tree.specs.declared.element.Element.{Element}
 use Rattle.layout.specs.Encoding.{blank, seek, element_bytes, element_table, name_bytes, name_table, header_bytes, joint, encoded}
 use Rattle.layout.proofs.Tables.{length-name, length-encoded, joint_take, length_joint_halves, seek_more, names_take}
-use Rattle.sheet.specs.Writing.{texts}
-use Rattle.sheet.proofs.Fields.{length-texts}
+use Rattle.tree.specs.Tree.{bytes_of}
+use Rattle.sheet.proofs.Fields.{length-bytes_of}
 
 -- The element table, from the back.
 
@@ -68,40 +68,40 @@ module _ (es : List Element) (k m : ℕ) (within : k < length es) (next : m ≡ 
 -- The name table and the names' bytes, one name more.
 
 -- name k, x, whose bytes begin at o
-module _ (xs : List (Bor (List ℕ))) (k o : ℕ) (d : Bor (List ℕ)) (within : k < length xs) (begins : o ≡ length (joint (take k (texts xs)))) where
-  name : get_or (texts xs) k [] ≡ (get_or xs k d).now
+module _ (xs : List (Bor (List ℕ))) (k o : ℕ) (d : Bor (List ℕ)) (within : k < length xs) (begins : o ≡ length (joint (take k (bytes_of xs)))) where
+  name : get_or (bytes_of xs) k [] ≡ (get_or xs k d).now
   name = get_or-map (λ x. x.now) xs k d [] within
 
-  below : k < length (texts xs)
-  below = omega (arith, length-texts xs)
+  below : k < length (bytes_of xs)
+  below = omega (arith, length-bytes_of xs)
 
-  joint_more : joint (take (k + 1) (texts xs)) ≡ joint (take k (texts xs)) ++ (get_or xs k d).now
-  joint_more = rw (add-one k) (joint_take (texts xs) k below) ∙ ap (λ (t : List ℕ). joint (take k (texts xs)) ++ t) name
+  joint_more : joint (take (k + 1) (bytes_of xs)) ≡ joint (take k (bytes_of xs)) ++ (get_or xs k d).now
+  joint_more = rw (add-one k) (joint_take (bytes_of xs) k below) ∙ ap (λ (t : List ℕ). joint (take k (bytes_of xs)) ++ t) name
 
-  pub offset_more : o + length (get_or xs k d).now ≡ length (joint (take (k + 1) (texts xs)))
-  offset_more = omega (arith, begins, ap length joint_more, length-append (joint (take k (texts xs))) (get_or xs k d).now)
+  pub offset_more : o + length (get_or xs k d).now ≡ length (joint (take (k + 1) (bytes_of xs)))
+  offset_more = omega (arith, begins, ap length joint_more, length-append (joint (take k (bytes_of xs))) (get_or xs k d).now)
 
-  pub offset_within : o + length (get_or xs k d).now ≤ length (joint (texts xs))
-  offset_within = omega (arith, offset_more, length_joint_halves (texts xs) (k + 1))
+  pub offset_within : o + length (get_or xs k d).now ≤ length (joint (bytes_of xs))
+  offset_within = omega (arith, offset_more, length_joint_halves (bytes_of xs) (k + 1))
 
-  pub text_more : (text out : List ℕ) → o ≤ length text → out ≡ (get_or xs k d).now → take o text ≡ joint (take k (texts xs))
-      → take (o + length (get_or xs k d).now) (put_mid o (o + length (get_or xs k d).now - o) text out) ≡ joint (take (k + 1) (texts xs))
+  pub text_more : (text out : List ℕ) → o ≤ length text → out ≡ (get_or xs k d).now → take o text ≡ joint (take k (bytes_of xs))
+      → take (o + length (get_or xs k d).now) (put_mid o (o + length (get_or xs k d).now - o) text out) ≡ joint (take (k + 1) (bytes_of xs))
   text_more text out room q done =
       take-put_mid o (o + length (get_or xs k d).now - o) text out (o + length (get_or xs k d).now) (omega (arith, ap length q)) room
       ∙ (rw (done, q) (sym joint_more))
 
   pub names_more : (f : ℕ → ℕ) (table out : List ℕ) → 12 * k ≤ length table → out ≡ name_bytes o (length (get_or xs k d).now) (f k)
-      → take (12 * k) table ≡ name_table f (take k (texts xs)) 0 0
-      → take (12 * (k + 1)) (put_mid (12 * k) (12 * (k + 1) - 12 * k) table out) ≡ name_table f (take (k + 1) (texts xs)) 0 0
+      → take (12 * k) table ≡ name_table f (take k (bytes_of xs)) 0 0
+      → take (12 * (k + 1)) (put_mid (12 * k) (12 * (k + 1) - 12 * k) table out) ≡ name_table f (take (k + 1) (bytes_of xs)) 0 0
   names_more f table out room q done =
       let n : 12 * (k + 1) ≡ 12 * k + length out = omega (arith, ap length q, length-name o (length (get_or xs k d).now) (f k)) in
       take-put_mid (12 * k) (12 * (k + 1) - 12 * k) table out (12 * (k + 1)) n room
-      ∙ (rw (done, q, begins, ← name, add-one k) (sym (names_take f (texts xs) k 0 0 below ∙ rw (zero-add k, zero-add (length (joint (take k (texts xs))))) refl)))
+      ∙ (rw (done, q, begins, ← name, add-one k) (sym (names_take f (bytes_of xs) k 0 0 below ∙ rw (zero-add k, zero-add (length (joint (take k (bytes_of xs))))) refl)))
 
 -- The whole.
 
-pub length_sheet : (es : List Element) (xs : List (Bor (List ℕ))) → length (encoded es (texts xs)) ≡ 32 + 16 * length es + 12 * length xs + length (joint (texts xs))
-length_sheet es xs = omega (arith, length-encoded es (texts xs), length-texts xs)
+pub length_sheet : (es : List Element) (xs : List (Bor (List ℕ))) → length (encoded es (bytes_of xs)) ≡ 32 + 16 * length es + 12 * length xs + length (joint (bytes_of xs))
+length_sheet es xs = omega (arith, length-encoded es (bytes_of xs), length-bytes_of xs)
 
 -- the name table asks for the first elements of its own names alone
 names_same : (f g : ℕ → ℕ) (ts : List (List ℕ)) (j o : ℕ) → ((n : ℕ) → n < 1024 → f n ≡ g n) → j + length ts ≤ 1024 → name_table f ts j o ≡ name_table g ts j o
@@ -113,9 +113,9 @@ names_same f g (t ∷ ts) j o e h =
 
 -- a sheet is its header, its tables and the names' bytes
 pub sheet_of_parts : (es : List Element) (xs : List (Bor (List ℕ))) (f : ℕ → ℕ) (header elements names text : List ℕ)
-    → length xs ≤ 1024 → ((n : ℕ) → n < 1024 → f n ≡ seek n es 0) → header ≡ header_bytes (length es) (length xs) (length (joint (texts xs)))
-    → elements ≡ element_table es 0 → names ≡ name_table f (texts xs) 0 0 → text ≡ joint (texts xs)
-    → header ++ (elements ++ (names ++ text)) ≡ encoded es (texts xs)
+    → length xs ≤ 1024 → ((n : ℕ) → n < 1024 → f n ≡ seek n es 0) → header ≡ header_bytes (length es) (length xs) (length (joint (bytes_of xs)))
+    → elements ≡ element_table es 0 → names ≡ name_table f (bytes_of xs) 0 0 → text ≡ joint (bytes_of xs)
+    → header ++ (elements ++ (names ++ text)) ≡ encoded es (bytes_of xs)
 sheet_of_parts es xs f header elements names text few first p q r s =
-    let same : name_table f (texts xs) 0 0 ≡ name_table (λ j. seek j es 0) (texts xs) 0 0 = names_same f (λ j. seek j es 0) (texts xs) 0 0 first (omega (arith, length-texts xs)) in
-    rw (p, q, r, s, same, ← length-texts xs) refl
+    let same : name_table f (bytes_of xs) 0 0 ≡ name_table (λ j. seek j es 0) (bytes_of xs) 0 0 = names_same f (λ j. seek j es 0) (bytes_of xs) 0 0 first (omega (arith, length-bytes_of xs)) in
+    rw (p, q, r, s, same, ← length-bytes_of xs) refl

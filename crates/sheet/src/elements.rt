@@ -29,6 +29,7 @@ pub(crate) fn read_links(records: &Records) -> Links
     let count = records.element_count();
     let mut wrong = None;
     let mut first = [count; MOST_NAMES];
+    // By number, here and below, since records are read by number.
     for k in (0..count).rev() {
         let name = records.element(k).name as usize;
         if name < MOST_NAMES {

@@ -2,7 +2,8 @@
 ghost use Rattle.std.specs.Prelude.{◌≡◌, ℕ, ◌+◌, ◌*◌, ◌<◌, ◌≤◌, Ok, IfOk, All, length, slice_index};
 ghost use Rattle.markup.specs.Faults.{and_then};
 ghost use Rattle.layout.specs.Encoding.{seek, header_bytes, element_table, name_table, joint, encoded};
-ghost use Rattle.sheet.specs.Writing.{texts, fields_fit, encodes, written};
+ghost use Rattle.sheet.specs.Writing.{fields_fit, encodes, written};
+ghost use Rattle.tree.specs.Tree.{bytes_of};
 
 use crate::write;
 use byteorder::{ByteOrder, LittleEndian};
@@ -25,7 +26,7 @@ struct Contents<'a> {
 impl<'a> Contents<'a> {
     // The fault is the first field or record that would be wrong.
     fn new(elements: &'a [Element], names: &'a [&'a [u8]]) -> Result<Contents<'a>, Fault>
-        ensures fits { and_then result (λ _. Ok tt) ≡ fields_fit elements.now (texts names.now) }
+        ensures fits { and_then result (λ _. Ok tt) ≡ fields_fit elements.now (bytes_of names.now) }
         ensures same { IfOk result (λ c. (c.elements.now ≡ elements.now) × (c.names.now ≡ names.now)) }
     {
         if elements.len() > MOST_ELEMENTS {
@@ -45,7 +46,7 @@ impl<'a> Contents<'a> {
 
     // How many bytes the names have together.
     fn joint_length(&self) -> usize
-        ensures { result ≡ length (joint (texts self.now.names.now)) }
+        ensures { result ≡ length (joint (bytes_of self.now.names.now)) }
     {
         self.names.iter().map(|n| n.len()).sum()
     }
@@ -53,7 +54,7 @@ impl<'a> Contents<'a> {
     // How long the sheet is.
     #[tactic(auto, using(crate::proofs::Parts::length_sheet, crate::proofs::Fields::joint_le))]
     fn sheet_length(&self) -> usize
-        ensures { result ≡ length (encoded self.now.elements.now (texts self.now.names.now)) }
+        ensures { result ≡ length (encoded self.now.elements.now (bytes_of self.now.names.now)) }
     {
         32 + 16 * self.elements.len() + 12 * self.names.len() + self.joint_length()
     }
@@ -62,7 +63,7 @@ impl<'a> Contents<'a> {
     #[tactic(auto, using(crate::proofs::Fields::joint_le), unfolding(layout::specs::Encoding::le32))]
     fn put_header(&self, out: &mut [u8])
         requires { length out.old ≡ 32 }
-        ensures { out.new ≡ header_bytes (length self.now.elements.now) (length self.now.names.now) (length (joint (texts self.now.names.now))) }
+        ensures { out.new ≡ header_bytes (length self.now.elements.now) (length self.now.names.now) (length (joint (bytes_of self.now.names.now))) }
     {
         let elements = self.elements.len() as u32;
         let names = self.names.len() as u32;
@@ -82,6 +83,7 @@ impl<'a> Contents<'a> {
     {
         // The count of elements stands for none, as it does in the sheet.
         let mut nearest = [self.elements.len() as u32; MOST_NAMES];
+        // Records by number, since `chunks_exact_mut` does not say what the table then holds.
         for (k, e) in self.elements.iter().enumerate().rev() {
             let name = e.name as usize;
             write::put_element(&mut table[16 * k..16 * (k + 1)], *e, nearest[name]);
@@ -94,9 +96,9 @@ impl<'a> Contents<'a> {
     #[tactic(auto, using(crate::proofs::Fields::joint_le, crate::proofs::Parts::offset_within))]
     fn put_names(&self, first: &[u32; MOST_NAMES], table: &mut [u8], text: &mut [u8])
         requires table { length table.old ≡ 12 * length self.now.names.now }
-        requires text { length text.old ≡ length (joint (texts self.now.names.now)) }
-        ensures table { table.new ≡ name_table (λ j. slice_index first.now j) (texts self.now.names.now) 0 0 }
-        ensures text { text.new ≡ joint (texts self.now.names.now) }
+        requires text { length text.old ≡ length (joint (bytes_of self.now.names.now)) }
+        ensures table { table.new ≡ name_table (λ j. slice_index first.now j) (bytes_of self.now.names.now) 0 0 }
+        ensures text { text.new ≡ joint (bytes_of self.now.names.now) }
     {
         // Where the next name's bytes begin, which its record tells.
         let mut offset = 0;
@@ -116,8 +118,8 @@ impl<'a> Contents<'a> {
     // Writes the sheet.
     #[tactic(auto, using(crate::proofs::Parts::length_sheet, crate::proofs::Fields::joint_le))]
     fn put(&self, out: &mut [u8])
-        requires { length out.old ≡ length (encoded self.now.elements.now (texts self.now.names.now)) }
-        ensures { out.new ≡ encoded self.now.elements.now (texts self.now.names.now) }
+        requires { length out.old ≡ length (encoded self.now.elements.now (bytes_of self.now.names.now)) }
+        ensures { out.new ≡ encoded self.now.elements.now (bytes_of self.now.names.now) }
     {
         let (header, tables) = out.split_at_mut(32);
         let (elements, rest) = tables.split_at_mut(16 * self.elements.len());
@@ -136,8 +138,8 @@ impl<'a> Contents<'a> {
 // The elements and names of a lawful tree have a sheet, and it is lawful. Of others the sheet that is written is not:
 // opening it is refused.
 pub fn encode(elements: &[Element], names: &[&[u8]], out: &mut [u8]) -> Result<usize, Fault>
-    ensures answer { result ≡ encodes elements.now (texts names.now) (length out.old) }
-    ensures buffer { out.new ≡ written elements.now (texts names.now) result out.old }
+    ensures answer { result ≡ encodes elements.now (bytes_of names.now) (length out.old) }
+    ensures buffer { out.new ≡ written elements.now (bytes_of names.now) result out.old }
 {
     let contents = Contents::new(elements, names)?;
     let length = contents.sheet_length();

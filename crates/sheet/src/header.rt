@@ -21,6 +21,7 @@ pub(crate) struct Header {
 }
 
 impl Header {
+    // From the first 32 bytes. Not of a `&[u8; 32]`, whose fields would have to be shown to be those of the whole sheet.
     pub(crate) fn read(bytes: &[u8]) -> Self
         requires { 32 ≤ length bytes.now }
         ensures { result ≡ header_at bytes.now }

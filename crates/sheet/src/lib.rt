@@ -6,7 +6,6 @@ mod elements;
 mod encoder;
 mod header;
 pub mod laws;
-mod limits;
 mod names;
 mod read;
 mod records;

@@ -15,7 +15,8 @@ pub(crate) fn element_offset(k: u32) -> usize
     32 + 16 * k as usize
 }
 
-// The bytes of a sheet whose header is right and tells their length.
+// The bytes of a sheet whose header is right and tells their length. Numbers of records have to be below their count, as an
+// index of a slice has: a type for such numbers would be made anew for each.
 #[derive(Clone, Copy)]
 pub(crate) struct Records<'b> {
     pub(crate) bytes: &'b [u8],

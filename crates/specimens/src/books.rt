@@ -4,6 +4,7 @@ use std::alloc::{AllocError, Global};
 use std::process::Abort;
 use std::test::Fail;
 
+// `rt` and `heap` go apart: one handle for both would be bound by two traits.
 fn check_outline(rt: &impl Abort, heap: Global, text: &str, lines: &str) -> Result<(), Fail> {
     let printed = outline::outline(heap, text.as_bytes())?;
     assert_eq!(rt; printed.as_slice(), lines.as_bytes(), "of {text:.40}");

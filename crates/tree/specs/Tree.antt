@@ -1,5 +1,6 @@
 -- The tree of a book: its elements with their names.
 use Rattle.std.specs.Prelude.{◌≡◌, ℕ, ◌+◌, ◌<◌, ◌≤◌, max, List, [], ◌∷◌, map, length, ◌≢◌, slice_index_or}
+use Rattle.std.specs.Borrow.{Bor}
 use Rattle.markup.specs.Name.{LawfulName}
 use Rattle.tree.specs.declared.element.Element.{Element}
 use Rattle.tree.specs.Region.{Region, LawfulBook}
@@ -11,6 +12,10 @@ region_of e = record { start = e.start; end = e.«end»; level = e.level }
 pub record Tree : Type 0 where
   pub elements : List Element
   pub names : List (List ℕ)
+
+-- the bytes of names that are parts of a text
+abbrev pub bytes_of : List (Bor (List ℕ)) → List (List ℕ)
+bytes_of names = map (λ n. n.now) names
 
 -- where n name numbers are used so far, these elements first use n, n + 1 and so on up to m - 1, in this order
 abbrev pub FirstUses : ℕ → List Element → ℕ → Type 0

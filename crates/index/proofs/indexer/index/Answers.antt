@@ -1,7 +1,7 @@
 use Rattle.std.proofs.Common.{length, Ok, ◌∙◌}
 use Rattle.std.proofs.lemmas.Result.{err_from_is_err_and}
 use Rattle.book.specs.Views.{tree_of}
-use Rattle.book.specs.Parts.{bytes_of}
+use Rattle.tree.specs.Tree.{bytes_of}
 use Rattle.sheet.specs.Writing.{encodes, written}
 use Rattle.index.proofs.Indexing.{indexed_written, indexed_refused}
 use Rattle.index.proofs.indexer.index.Goals as goal

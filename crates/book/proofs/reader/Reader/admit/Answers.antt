@@ -2,7 +2,7 @@ use Rattle.std.proofs.Common.{◌≡◌, ℕ, if◌then◌else◌, List, [], ◌
 use Rattle.std.specs.Option.{unwrap_or}
 use Rattle.std.proofs.lemmas.Result.{err_from_is_err_and}
 use Rattle.book.specs.Document.{position, intern}
-use Rattle.book.specs.Parts.{bytes_of}
+use Rattle.tree.specs.Tree.{bytes_of}
 use Rattle.book.specs.Reading.{State, Consistent}
 use Rattle.book.specs.Views.{state_of}
 use Rattle.book.proofs.Consistency.{named_consistent}
