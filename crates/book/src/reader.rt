@@ -122,8 +122,8 @@ impl<'t> Reader<'t> {
         })
     }
 
-    // A start tag: its element is open from here on. Name and place go apart, here and below, since a struct of the two would be taken
-    // apart at once.
+    // A start tag: its element is open from here on. Name and place go apart, here and below: the place is a `u32` from here on,
+    // which it is not in a `Tag`.
     fn start(&mut self, name: &'t [u8], place: u32) -> Result<(), Error>
         ensures { Answers (step self.old place (Item.start name.now)) result (λ _. self.new) }
     {

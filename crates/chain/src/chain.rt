@@ -10,8 +10,8 @@ ghost use Rattle.chain.specs.Laws.{chain_laws};
 use pattern::Twig;
 use sheet::SheetView;
 use std::array;
-use stream::Region;
-use stream::set::{POSITIONS, SkippingSet, StreamSet};
+use stream::set::{SkippingSet, StreamSet};
+use stream::{POSITIONS, Region};
 
 // The number of the first element with the name of node i, if there is one.
 fn head(view: &SheetView, twig: &Twig, i: usize) -> Option<u32>

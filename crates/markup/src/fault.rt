@@ -43,7 +43,7 @@ pub enum Refusal {
 }
 
 impl Refusal {
-    // The number that a refusal is reported under. A method, since a `From<Refusal> for u8` would not say which number it is.
+    // The number that a refusal is reported under. A method by name: `u8::from(refusal)` is no plainer.
     pub fn number(self) -> u8
         ensures { result ≡ number_of self }
     {

@@ -7,7 +7,8 @@ use std::io::Read;
 pub(crate) fn read_up_to(rt: &HostRuntime, most: usize) -> anyhow::Result<Vec<u8>>
     ensures { IfOk result (λ v. vec_len v ≤ most) }
 {
-    let mut text = Vec::with_capacity(rt.alloc(), most)?;
+    // One byte more, so that the read that finds the end needs no more room.
+    let mut text = Vec::with_capacity(rt.alloc(), most.saturating_add(1))?;
     rt.stdin().take(most as u64).read_to_end(&mut text)?;
     // Cuts nothing off: it is for the proof, since the contract of `read_to_end` does not speak of the limit.
     text.truncate(most);

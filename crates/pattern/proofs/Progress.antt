@@ -31,9 +31,6 @@ from_start t x y m text place none led =
     ∙ led
     ∙ (λ i. reads_on y (record { mark = m; nodes = vertices (sym none i); holder = 0; brackets = []; phase = edge Child }))
 
-pub from_start_not : (t : List ℕ) (x : Spot) (y : Spot) (f : Fault) → x.rest ≡ t → x.place ≡ 0 → Led x y (Err f) → run_in limits start 0 t ≡ Err f
-from_start_not t x y f text place led = (λ i. run_in limits start (sym place i) (sym text i)) ∙ led
-
 -- a name and its node
 pub begun : (x : Reader) (y : Spot) (nodes : Nodes) (a : Name) (h : Option Hook) (full : Bool) (number : ℕ)
     → full ≡ leb 16 (length (items x.nodes)) → Named full x.cursor y (Ok a) → (items nodes) ≡ (items x.nodes) ++ record { name = a; hook = h } ∷ [] → number ≡ length (items x.nodes)

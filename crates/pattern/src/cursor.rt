@@ -120,7 +120,8 @@ impl<'a> Cursor<'a> {
         self.rest.first().is_some_and(|b| name::starts_name(*b))
     }
 
-    // A name, where there may be no room for one.
+    // A name, where there may be no room for one: that is asked here, since a byte that begins no name is refused first. The lexer of
+    // books has the like of its own: a call for both could not ask that the place of the 33rd byte fits.
     pub(crate) fn name(&mut self, is_full: bool) -> Result<Name, Fault>
         ensures { Named is_full self.old self.new result }
     {

@@ -9,7 +9,7 @@ use super::node::Node;
 const MOST_NODES: usize = 16;
 
 // The first `len` nodes of the table, in the order of their names in the text.
-// Not an `ArrayVec`, which is not `Copy`, as a twig is.
+// Not an `ArrayVec`, which is not `Copy`, as a twig is; and not one type with `Name`, since a generic struct may hold no array of a type parameter.
 #[derive(Clone, Copy)]
 pub(crate) struct Nodes {
     table: [Node; MOST_NODES],
@@ -46,7 +46,7 @@ impl Nodes {
         self.len >= MOST_NODES
     }
 
-    // One node more; its number.
+    // One node more; its number. That its hook is one of these is asked, being a fact of the two together.
     #[tactic(auto, using(crate::proofs::Hooks::hung_more))]
     pub(crate) fn push(&mut self, node: Node) -> usize
         requires room { length (items self.old) < 16 }

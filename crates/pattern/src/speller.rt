@@ -73,7 +73,7 @@ impl Twig {
         ensures written { Written (spelling (shape_of self.now)) out.old out.new result }
         ensures standard { Spells (up_to 7) (spelling (shape_of self.now)) (shape_of self.now) }
         ensures back { read_pattern (spelling (shape_of self.now)) ≡ Ok (shape_of self.now) }
-        ensures short { length (spelling (shape_of self.now)) ≤ 589 }
+        ensures short { length (spelling (shape_of self.now)) ≤ LONGEST_SPELLING }
     {
         let text = self.spelled();
         let len = text.len();

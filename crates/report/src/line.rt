@@ -15,6 +15,7 @@ pub fn element_line(heap: Global, element: Element, name: &[u8]) -> Result<Vec<u
     ensures { IfOk result (λ v. v.items ≡ element_line element name.now) }
 {
     let mut line = Vec::with_capacity(heap, name.len().saturating_add(ROOM))?;
+    // Not by `format!`, which takes three quarters of the time of an outline full of tags.
     let mut digits = Buffer::new();
     for n in [element.start, element.end, u32::from(element.level)] {
         line.extend_from_slice(digits.format(n).as_bytes())?;

@@ -12,7 +12,7 @@ use arrayvec::ArrayVec;
 use markup::{Fault, Refusal};
 use tree::limits::{LAST_END, MOST_LEVELS, MOST_NAMES};
 
-// What the elements' names and nexts tell.
+// What the elements' names and nexts tell. No invariant says so, since it would be of the records too, which are not here.
 #[derive(Drop)]
 pub(crate) struct Links {
     // The lowest element whose next is wrong.
@@ -42,6 +42,7 @@ pub(crate) fn read_links(records: &Records) -> Links
     Links { wrong, first }
 }
 
+// The records, the open elements and k go apart, here and below, since what holds of them together fails where k does not fit.
 // Closes those of the open elements, `stack`, outermost first, that end below the start of element k.
 fn close(records: &Records, stack: &mut ArrayVec<u32, MOST_LEVELS>, k: u32)
     requires within { k < element_count records.now.bytes.now }

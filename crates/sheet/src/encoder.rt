@@ -100,7 +100,7 @@ impl<'a> Contents<'a> {
         ensures table { table.new ≡ name_table (λ j. slice_index first.now j) (bytes_of self.now.names.now) 0 0 }
         ensures text { text.new ≡ joint (bytes_of self.now.names.now) }
     {
-        // Where the next name's bytes begin, which its record tells.
+        // Where the next name's bytes begin, which its record tells. Records by number, as above.
         let mut offset = 0;
         for (j, name) in self.names.iter().enumerate() {
             let end = offset + name.len();

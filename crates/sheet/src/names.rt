@@ -25,7 +25,7 @@ struct Names<'r, 'b> {
     records: &'r Records<'b>,
     // Each name's first element.
     first: &'r [u32; MOST_NAMES],
-    // A key of each of the names.
+    // A key of each of the names: opening allocates nothing, so names are compared in pairs, by their keys first.
     keys: ArrayVec<u32, MOST_NAMES>,
     // Where they end among the name bytes.
     end: u32,
@@ -53,6 +53,7 @@ impl<'r, 'b> Names<'r, 'b> {
         ensures { MatchBool result ((i : ℕ) × (i < length self.now.keys.items) × (name_text self.now.records.now.bytes.now i ≡ text.now)) ((i : ℕ) → i < length self.now.keys.items → name_text self.now.records.now.bytes.now i ≢ text.now) }
     {
         let own = key(text);
+        // By number, which the name's bytes are read by.
         (0..self.keys.len()).any(|i| self.keys[i] == own && self.records.text(i as u32) == text)
     }
 
@@ -94,6 +95,7 @@ pub(crate) fn check_names(records: &Records, first: &[u32; MOST_NAMES]) -> Resul
     ensures { MatchResult result (λ _. Each (RightName records.now.bytes.now) (name_count records.now.bytes.now) × (names_end records.now.bytes.now (name_count records.now.bytes.now) ≡ byte_count records.now.bytes.now)) (λ f. WrongName records.now.bytes.now f) }
 {
     let mut names = Names::new(records, first);
+    // By number, as records are read.
     for j in 0..records.name_count() {
         if !names.next_is_right() {
             return Err(Refusal::NameRecord.at(records.name_offset(j)));

@@ -16,7 +16,8 @@ pub(crate) fn element_offset(k: u32) -> usize
 }
 
 // The bytes of a sheet whose header is right and tells their length. Numbers of records have to be below their count, as an
-// index of a slice has: a type for such numbers would be made anew for each.
+// index of a slice has: a type for such numbers would be made anew for each. No model as bytes: a view has none, and the crates
+// above cite its field.
 #[derive(Clone, Copy)]
 pub(crate) struct Records<'b> {
     pub(crate) bytes: &'b [u8],

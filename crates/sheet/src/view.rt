@@ -70,12 +70,11 @@ impl<'b> SheetView<'b> {
     pub fn element(&self, k: u32) -> Option<Element>
         ensures { result ≡ element_in self.now.bytes.now k }
     {
-        // Not `then`: nothing is known of what its closure gives, and the proof does not close.
-        if k < self.element_count() {
-            Some(self.records().element(k))
-        } else {
-            None
+        // Here and below not by `then`, with which the proof did not close.
+        if k >= self.element_count() {
+            return None;
         }
+        Some(self.records().element(k))
     }
 
     // The number of the nearest later element with element k's name, if there is one.

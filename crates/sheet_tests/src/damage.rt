@@ -27,6 +27,7 @@ fn refuses_other_lengths(rt: HostRuntime) {
 #[test]
 fn survives_every_change_of_a_byte(rt: HostRuntime) -> Result<(), Fail> {
     let mut answers = Vec::new(rt.alloc());
+    // By numbers: each place of a copy is written in turn.
     for i in 0..135 {
         for value in 0..=255 {
             let mut bytes = SHEET;

@@ -5,9 +5,10 @@ use std::alloc::{AllocError, Global};
 fn name(number: u32, skip: usize) -> [u8; 32] {
     let mut bytes = [b'a'; 32];
     let rests = [number, number / 11, number / 121];
-    for (byte, rest) in bytes.iter_mut().skip(skip).zip(rests) {
+    for (byte, rest) in bytes.iter_mut().zip(rests) {
         *byte = b'a' + (rest % 11) as u8;
     }
+    bytes.rotate_right(skip % 32);
     bytes
 }
 

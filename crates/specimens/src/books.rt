@@ -191,6 +191,7 @@ fn lengths(rt: HostRuntime) -> Result<(), Fail> {
 fn every_front_is_refused(rt: HostRuntime) -> Result<(), Fail> {
     let heap = rt.alloc();
     let sample = b"<b><p><n/> text </p>\n<p></p></b>";
+    // By number, which is the length of the front.
     for i in 0..sample.len() {
         let printed = outline::outline(heap, &sample[..i])?;
         assert!(rt; printed.as_slice().starts_with(b"refused "));

@@ -50,9 +50,7 @@ const SECOND_NOTE: Region = Region {
 // The sheet of the book.
 fn sheet_of(rt: &impl Abort, heap: Global) -> Result<Vec<u8>, Fail> {
     let mut bytes = vec![in heap; 0u8; 200]?;
-    let len = index::index(heap, TEXT, bytes.as_mut_slice()).map_err(|_| Fail::new(
-        "the book is refused",
-    ))?;
+    let len = index::index(heap, TEXT, bytes.as_mut_slice())?;
     assert!(rt; len == 167);
     bytes.truncate(len);
     Ok(bytes)
@@ -61,11 +59,9 @@ fn sheet_of(rt: &impl Abort, heap: Global) -> Result<Vec<u8>, Fail> {
 // The chain set of the pattern over the sheet.
 fn chains<'b>(sheet: &'b [u8], text: &[u8]) -> Result<ChainSet<'b>, Fail> {
     let mut view = SheetView::new();
-    view.open(sheet)
-        .map_err(|_| Fail::new("the sheet is refused"))?;
+    view.open(sheet)?;
     let mut twig = Twig::new();
-    twig.read(text)
-        .map_err(|_| Fail::new("the pattern is refused"))?;
+    twig.read(text)?;
     Ok(ChainSet::new(view, &twig))
 }
 
