@@ -1,3 +1,4 @@
 pub mod Follow
 pub mod FromFn
 pub mod Naming
+pub mod Standing
