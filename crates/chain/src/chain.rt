@@ -81,6 +81,7 @@ impl<'b, M: Select> Chains<'b, M> {
         ensures view { self.new.view ≡ self.old.view }
         ensures positions { length self.new.heads ≡ 16 }
     {
+        // A loop, since `find` asks that its iterator is known to end, and one by `successors` never is.
         while let Some(k) = self.heads.get(i).copied().flatten() {
             if self.select.select(k) {
                 return Some(k);

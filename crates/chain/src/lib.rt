@@ -5,5 +5,4 @@ pub mod chain;
 pub mod laws;
 pub mod select;
 
-pub use chain::{ChainSet, Chains, MarkedSet};
-pub use select::{AnyElement, Marked, Select};
+pub use chain::{ChainSet, MarkedSet};

@@ -301,6 +301,13 @@ fn marked_set(rt: HostRuntime) -> Result<(), Fail> {
     check_list(&rt, &mut set, 1, &[]);
     let mut set = marked(sheet, &[])?;
     check_list(&rt, &mut set, 0, &[]);
+    // a set is copied with its lists
+    let fresh = marked(sheet, MARKS)?;
+    let mut set = fresh;
+    set.advance(0);
+    assert_eq!(rt; set.tell(0), Some(INNER));
+    set = fresh;
+    check_list(&rt, &mut set, 0, &[OUTER, INNER]);
     Ok(())
 }
 
