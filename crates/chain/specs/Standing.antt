@@ -13,8 +13,8 @@ abbrev pub passing : (ℕ → Element → Bool) → ℕ → List Element → Lis
 passing p k [] = []
 passing p k (e ∷ es) = cond (p k e) (e ∷ passing p (k + 1) es) (passing p (k + 1) es)
 
--- the book is that of the tree, and list i has the elements with the name of node i that are let through there, in the tree's order;
--- `lets i k e` says whether element e with the number k is
+-- The book is that of the tree, and list i has the elements with the name of node i that are let through there, in the tree's order.
+-- Elements are numbered from 0, and `lets i k e` says whether element k, which is e, is let through at position i.
 pub record StandsFor (t : Tree) (nodes : List Vertex) (lets : ℕ → ℕ → Element → Bool) (book : List Region) (lists : ℕ → List Region) : Type 0 where
   pub elements : book ≡ map region_of t.elements
   pub named : (i : ℕ) → i < length nodes → lists i ≡ map region_of (passing (λ k e. has_name t (node_at nodes i).name e && lets i k e) 0 t.elements)
