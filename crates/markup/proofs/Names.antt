@@ -1,6 +1,8 @@
 -- Lawful names.
 use Rattle.std.proofs.Common.{◌≡◌, ℕ, ◌≤◌, true, List, [], ◌∷◌, length, get_or, take, sym, ap, ◌∙◌, true≢false, arith, length-take}
-use Rattle.std.specs.List.{prefix_len}
+use Rattle.std.specs.List.{prefix_len, AllByRecursion-prop}
+use Rattle.std.proofs.Math.Bool.{Bool-set}
+use Rattle.std.proofs.Math.Bridge.{le_prop}
 use Rattle.std.proofs.lemmas.List.{get_or-take}
 use Rattle.std.proofs.lemmas.List.Sums.{prefix_len-le-length}
 use Rattle.std.proofs.lemmas.Bool.{or_left}
@@ -27,3 +29,12 @@ name_run name l = leading_all name_byte name l.each
 pub name_from_run : (name : List ℕ) → length name ≤ 32 → name_first (get_or name 0 0) ≡ true → prefix_len name_byte name ≡ length name → LawfulName name
 name_from_run [] short first run = absurd (true≢false (sym first))
 name_from_run (b ∷ name) short first run = record { some = omega arith; short = short; first = first; each = all_from_leading name_byte (b ∷ name) run }
+
+-- all proofs that a name is lawful are equal
+pub lawful_name_prop : (name : List ℕ) → IsProp (LawfulName name)
+lawful_name_prop name a b i = record {
+  some = le_prop a.some b.some i;
+  short = le_prop a.short b.short i;
+  first = Bool-set _ _ a.first b.first i;
+  each = AllByRecursion-prop _ (λ _. Bool-set _ _) name a.each b.each i;
+}

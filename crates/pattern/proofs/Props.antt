@@ -1,12 +1,11 @@
 -- A twig's lawfulness is a proposition, so that it can be taken out of the type.
-use Rattle.std.proofs.Common.{◌≡◌, ℕ, Ok, List, sym, refl, subst}
+use Rattle.std.proofs.Common.{◌≡◌, Ok, List, sym, refl, subst}
 use mathlib.Core.HLevel.{hedberg}
 use Rattle.std.proofs.Math.Logic.{∥∥₁_elim}
-use Rattle.std.proofs.Math.Bool.{Bool-set}
 use Rattle.std.proofs.Math.Nat.{ℕ_set}
 use Rattle.std.proofs.Math.Bridge.{le_prop}
 use Rattle.std.specs.List.{AllByRecursion-prop}
-use Rattle.markup.specs.Name.{LawfulName}
+use Rattle.markup.proofs.Names.{lawful_name_prop}
 use Rattle.pattern.specs.declared.node.Edge.{Edge}
 use Rattle.pattern.specs.declared.node.Edge.TheVariants.{Child, Descendant}
 use Rattle.pattern.specs.Shape.{Vertex, LawfulTwig}
@@ -28,19 +27,11 @@ edge_discrete Child Descendant = no (λ e. subst ByChild e tt)
 edge_discrete Descendant Child = no (λ e. subst ByChild (sym e) tt)
 edge_discrete Descendant Descendant = yes refl
 
-name_prop : (a : List ℕ) → IsProp (LawfulName a)
-name_prop a x y i = record {
-  some = le_prop x.some y.some i;
-  short = le_prop x.short y.short i;
-  first = Bool-set _ _ x.first y.first i;
-  each = AllByRecursion-prop _ (λ b. Bool-set _ _) a x.each y.each i;
-}
-
 lawful_prop : (nodes : List Vertex) → IsProp (LawfulTwig nodes)
 lawful_prop nodes x y i = record {
   some = le_prop x.some y.some i;
   few = le_prop x.few y.few i;
-  named = AllByRecursion-prop _ (λ (v : Vertex). name_prop v.name) nodes x.named y.named i;
+  named = AllByRecursion-prop _ (λ (v : Vertex). lawful_name_prop v.name) nodes x.named y.named i;
   root = ℕ_set _ _ x.root y.root i;
   root_edge = hedberg edge_discrete _ _ x.root_edge y.root_edge i;
   lower = λ c p l. le_prop (x.lower c p l) (y.lower c p l) i;

@@ -1,23 +1,15 @@
 -- That bytes are a lawful sheet, or have a right header and length, has at most one proof, so the fact comes out of its truncation.
-use Rattle.std.proofs.Common.{◌≡◌, ℕ, zero, suc, ◌+◌, ◌<◌, ◌≤◌, true, List, [], ◌∷◌, length, get_or}
+use Rattle.std.proofs.Common.{◌≡◌, ℕ, zero, suc, ◌+◌, ◌<◌, ◌≤◌, List, length, get_or}
 use Rattle.std.proofs.Math.Logic.{∥∥₁_elim}
+use Rattle.std.proofs.Math.Nat.{ℕ_set}
+use Rattle.std.proofs.Math.Bridge.{le_prop}
 use denote.Struct.Props.{props}
-use Rattle.std.specs.List.{AllByRecursion as Every}
-use Rattle.markup.specs.Name.{name_first, name_byte, LawfulName}
+use Rattle.markup.proofs.Names.{lawful_name_prop}
 use Rattle.tree.specs.Region.{Region, Contains, Fits}
 use Rattle.layout.specs.Layout.{element_count, name_count, element_at, region_at, next_at, name_at, name_text}
 use Rattle.layout.specs.Lawful.{RightField, RightHeader, FirstFrom, FirstNamed, RightNumbers, RightElement, RightName, LawfulSheet}
 use Rattle.sheet.specs.Opening.{Sized}
 use Rattle.sheet.specs.Links.{CheckedNames, key_of}
-
-lt_prop : (m n : ℕ) → IsProp (m < n)
-lt_prop m n = hlevel props
-
-le_prop : (m n : ℕ) → IsProp (m ≤ n)
-le_prop m n = hlevel props
-
-eq_prop : (m n : ℕ) → IsProp (m ≡ n)
-eq_prop m n = hlevel props
 
 field_prop : (bs : List ℕ) (i : ℕ) → IsProp (RightField bs i)
 field_prop bs zero = hlevel props
@@ -35,12 +27,12 @@ fits_prop r k a b =
     let nested : IsProp ((j : ℕ) → j < k → (r k).start ≤ (r j).end → (r k).end < (r j).end) = hlevel props in
     let first : IsProp (0 < k → Contains (r 0) (r k)) = hlevel props in
     λ i. record {
-      span = lt_prop _ _ a.span b.span i;
-      reach = le_prop _ _ a.reach b.reach i;
-      depth = le_prop _ _ a.depth b.depth i;
+      span = le_prop a.span b.span i;
+      reach = le_prop a.reach b.reach i;
+      depth = le_prop a.depth b.depth i;
       rising = rising a.rising b.rising i;
       nested = nested a.nested b.nested i;
-      counted = eq_prop _ _ a.counted b.counted i;
+      counted = ℕ_set _ _ a.counted b.counted i;
       first = first a.first b.first i;
     }
 
@@ -49,8 +41,8 @@ first_prop f n x m k a b =
     let before : IsProp ((j : ℕ) → m ≤ j → j < k → f j ≡ x → ⊥) = hlevel props in
     let here : IsProp (k < n → f k ≡ x) = hlevel props in
     λ i. record {
-      from = le_prop _ _ a.from b.from i;
-      within = le_prop _ _ a.within b.within i;
+      from = le_prop a.from b.from i;
+      within = le_prop a.within b.within i;
       before = before a.before b.before i;
       here = here a.here b.here i;
     }
@@ -58,8 +50,8 @@ first_prop f n x m k a b =
 numbers_prop : (bs : List ℕ) (k : ℕ) → IsProp (RightNumbers bs k)
 numbers_prop bs k a b =
     λ i. record {
-      named = lt_prop _ _ a.named b.named i;
-      fresh = le_prop _ _ a.fresh b.fresh i;
+      named = le_prop a.named b.named i;
+      fresh = le_prop a.fresh b.fresh i;
       next = first_prop (λ j. (element_at bs j).name) (element_count bs) (element_at bs k).name (k + 1) (next_at bs k) a.next b.next i;
     }
 
@@ -67,31 +59,14 @@ element_prop : (bs : List ℕ) (k : ℕ) → IsProp (RightElement bs k)
 element_prop bs k a b =
     λ i. record { region = fits_prop (region_at bs) k a.region b.region i; numbers = numbers_prop bs k a.numbers b.numbers i }
 
-byte_prop : (b : ℕ) → IsProp (name_byte b ≡ true)
-byte_prop b = hlevel props
-
-all_prop : (P : ℕ → Type 0) → ((b : ℕ) → IsProp (P b)) → (bs : List ℕ) → IsProp (Every P bs)
-all_prop P p [] a b = λ i. tt
-all_prop P p (x ∷ bs) a b = λ i. (p x a.0 b.0 i, all_prop P p bs a.1 b.1 i)
-
-text_prop : (t : List ℕ) → IsProp (LawfulName t)
-text_prop t a b =
-    let first : IsProp (name_first (get_or t 0 0) ≡ true) = hlevel props in
-    λ i. record {
-      some = le_prop _ _ a.some b.some i;
-      short = le_prop _ _ a.short b.short i;
-      first = first a.first b.first i;
-      each = all_prop (λ x. name_byte x ≡ true) byte_prop t a.each b.each i;
-    }
-
 name_prop : (bs : List ℕ) (j : ℕ) → IsProp (RightName bs j)
 name_prop bs j a b =
     let different : IsProp ((i : ℕ) → i < j → name_text bs i ≡ name_text bs j → ⊥) = hlevel props in
     λ i. record {
-      follows = eq_prop _ _ a.follows b.follows i;
-      within = le_prop _ _ a.within b.within i;
-      lawful = text_prop (name_text bs j) a.lawful b.lawful i;
-      has = lt_prop _ _ a.has b.has i;
+      follows = ℕ_set _ _ a.follows b.follows i;
+      within = le_prop a.within b.within i;
+      lawful = lawful_name_prop (name_text bs j) a.lawful b.lawful i;
+      has = le_prop a.has b.has i;
       first = first_prop (λ k. (element_at bs k).name) (element_count bs) j 0 (name_at bs j).first a.first b.first i;
       different = different a.different b.different i;
     }
@@ -103,10 +78,10 @@ lawful_prop bs a b =
     let names : IsProp ((j : ℕ) → j < name_count bs → RightName bs j) = hlevel (props, name_prop) in
     λ i. record {
       header = header a.header b.header i;
-      size = eq_prop _ _ a.size b.size i;
+      size = ℕ_set _ _ a.size b.size i;
       elements = elements a.elements b.elements i;
       names = names a.names b.names i;
-      filled = eq_prop _ _ a.filled b.filled i;
+      filled = ℕ_set _ _ a.filled b.filled i;
     }
 
 pub lawful_of : (bs : List ℕ) → ∥ LawfulSheet bs ∥₁ → LawfulSheet bs
@@ -125,10 +100,10 @@ checked_prop bs first keys end a b =
     let keyed : IsProp ((j : ℕ) → j < length keys → get_or keys j 0 ≡ key_of (name_text bs j)) = hlevel props in
     λ i. record {
       firsts = firsts a.firsts b.firsts i;
-      few = le_prop _ _ a.few b.few i;
+      few = le_prop a.few b.few i;
       right = right a.right b.right i;
       keyed = keyed a.keyed b.keyed i;
-      ends = eq_prop _ _ a.ends b.ends i;
+      ends = ℕ_set _ _ a.ends b.ends i;
     }
 
 pub checked_of : (bs first keys : List ℕ) (end : ℕ) → ∥ CheckedNames bs first keys end ∥₁ → CheckedNames bs first keys end

@@ -35,7 +35,7 @@ pub contains_later : (u v : Region) → v.start < v.end → NestedOrApart u v �
 contains_later u v span n h k = grind arith
 
 -- none contains one that does not start later
-later_no : (u v : Region) → v.start ≤ u.start → contains u v ≡ false
+pub later_no : (u v : Region) → v.start ≤ u.start → contains u v ≡ false
 later_no u v h = and_left _ _ (le-ltb _ _ h)
 
 -- One by one.
