@@ -1,0 +1,7 @@
+// A search: it gathers the useful regions of a stream set into rows that it holds until it is closed.
+#![tactic(auto)]
+
+pub mod search;
+pub mod state;
+
+pub use search::Search;
