@@ -1,10 +1,10 @@
 -- The nodes of a twig, for the calls that ask about them.
-use Rattle.std.proofs.Common.{◌≡◌, ℕ, ◌<◌, ◌≤◌, List, length, get_or, Some, None, Option, MatchOption, sym, ap, ◌∙◌, arith}
+use Rattle.std.proofs.Common.{◌≡◌, ℕ, ◌<◌, ◌≤◌, List, length, get_or, Some, sym, ap, ◌∙◌, ⊎_elim, arith}
+use Rattle.std.proofs.lemmas.Bool.{cases_eq}
 use Rattle.pattern.specs.declared.node.Hook.{Hook}
 use Rattle.pattern.specs.declared.node.Node.{Node}
-use Rattle.pattern.specs.Shape.{Vertex, root_a, IsChild}
+use Rattle.pattern.specs.Shape.{Vertex, root_a, node_at, IsChild, LawfulTwig}
 use Rattle.pattern.specs.Nodes.{Hung}
-use Rattle.pattern.specs.Twig.{NextChild}
 use Rattle.pattern.specs.Table.{parent_of, vertex_of, vertices}
 use Rattle.pattern.proofs.Hooks.{not_root}
 use Rattle.pattern.proofs.Tables.{length-vertices, get_or-vertices}
@@ -17,9 +17,9 @@ child ns i n h hung there e hook = record {
   hangs = ap (λ (v : Vertex). v.parent) (get_or-vertices ns i n root_a there ∙ sym (ap vertex_of e)) ∙ ap parent_of hook;
 }
 
--- what a search over all numbers finds
-pub first_child : (ns : List Vertex) (p after n : ℕ) (r : Option ℕ) → n ≡ length ns
-    → MatchOption r ((k : ℕ) → 0 ≤ k → k < n → after < k → IsChild ns p k → ⊥) (λ i. (0 ≤ i) × (i < n) × ((after < i) × IsChild ns p i) × ((k : ℕ) → 0 ≤ k → k < i → after < k → IsChild ns p k → ⊥))
-    → NextChild ns p after r
-first_child ns p after n (Some c) e h = (h.2.1, h.2.0, λ b l u. h.3 b (omega arith) u l)
-first_child ns p after n None e h = λ c l k. h c (omega arith) (omega (arith, e, k.there)) l k
+-- where a node after node i hangs on one before it, no later one hangs on node i
+pub no_more_children : (nodes : List Vertex) → LawfulTwig nodes → (i p c : ℕ) → i < c → IsChild nodes p c → p < i → (d : ℕ) → c ≤ d → IsChild nodes i d → ⊥
+no_more_children nodes lawful i p c h C l d g D =
+    ⊎_elim (λ (q : d ≡ c). omega (arith, C.hangs, D.hangs, ap (λ n. (node_at nodes n).parent) q, l))
+    (λ (q : d ≡ c → ⊥). omega (arith, C.hangs, D.hangs, l, lawful.runs c d D.there (omega (arith, D.hangs, h)) (omega arith)))
+    (cases_eq d c)

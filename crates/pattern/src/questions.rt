@@ -38,10 +38,19 @@ impl Twig {
     }
 
     // The first child of node i with a number above `after`, by either edge. With `after` first i and then each answer, this goes over
-    // all of its children.
+    // all of its children. A node's children follow it, and the first that follows and hangs on a node before it ends them.
     pub fn next_child(&self, i: usize, after: usize) -> Option<usize>
         ensures { NextChild (shape_of self.now).nodes i after result }
     {
-        (0..self.len()).find(|c| *c > after && self.parent(*c) == Some(i))
+        for c in after.max(i).saturating_add(1)..self.len() {
+            let parent = self.parent(c)?;
+            if parent == i {
+                return Some(c);
+            }
+            if parent < i {
+                return None;
+            }
+        }
+        None
     }
 }

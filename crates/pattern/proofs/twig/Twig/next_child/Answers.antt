@@ -1,15 +1,12 @@
-use Rattle.std.proofs.Common.{◌<◌, rules}
-use Rattle.std.proofs.lemmas.Iterator.{first_from_Range}
-use borrow.Author.Tests.{tests}
-use Rattle.pattern.specs.Shape.{IsChild}
+use Rattle.std.proofs.Common.{◌<◌, ◌≤◌, ⊎_elim, arith}
+use Rattle.std.proofs.lemmas.Bool.{cases_lt}
 use Rattle.pattern.specs.Table.{items, vertices}
-use Rattle.pattern.proofs.Asked.{first_child}
+use Rattle.pattern.proofs.Asked.{no_more_children}
+use Rattle.pattern.proofs.Props.{every}
 use Rattle.pattern.proofs.twig.Twig.next_child.Goals as goal
 
-pub returns : goal.returns
-returns c =
-    let ns = vertices (items c.args.self.now.nodes) in
-    first_child ns c.args.i c.args.after c.len.result c.find.result c.len.ensures.count
-    (first_from_Range _ _ _ _ (λ k. (c.args.after < k) × IsChild ns c.args.i k) (λ k. c.args.after < k → IsChild ns c.args.i k → ⊥) c.find.ensures.ran
-    (λ x q k. search (rules, tests))
-    (λ x q k. search (rules, tests)))
+pub returns-then-parent-i-2 : goal.returns-then-parent-i-2
+returns-then-parent-i-2 c d l D =
+    ⊎_elim (λ (q : d < c.loop-c.c). c.loop-c.invariant d l q D)
+    (λ (q : c.loop-c.c ≤ d). no_more_children (vertices (items c.args.self.now.nodes)) (every c.args.self.now) c.args.i c.in_ok-parent.parent c.loop-c.c (omega arith) c.in_ok-parent.ensures.0 c.if-parent-i-2.true d q D)
+    (cases_lt d c.loop-c.c)
