@@ -1,1 +1,4 @@
 pub mod State
+pub mod Runs
+pub mod Kept
+pub mod Laws

@@ -1,0 +1,3 @@
+pub mod Paging
+pub mod Keeping
+pub mod Determined
