@@ -1,2 +1,3 @@
 mod Outlining
+mod Places
 mod Viewing
