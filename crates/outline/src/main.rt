@@ -2,13 +2,12 @@
 // where the text is no book text, only the refusal's line.
 #![tactic(auto)]
 
-mod input;
-
+use input::read_up_to;
 use report::outline;
 use std::io::Write;
 
 fn main(rt: HostRuntime) -> anyhow::Result<()> {
-    let text = input::read_up_to(&rt, book::reader::MOST_BYTES + 1)?;
+    let text = read_up_to(&rt, book::reader::MOST_BYTES + 1)?;
     let lines = outline::outline(rt.alloc(), text.as_slice())?;
     let mut out = rt.stdout();
     out.write_all(lines.as_slice())?;

@@ -1,0 +1,4 @@
+pub mod Splitting
+pub mod Ranking
+pub mod Paging
+pub mod Answering

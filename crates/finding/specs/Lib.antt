@@ -1,0 +1,5 @@
+pub mod Input
+pub mod Ending
+pub mod Pages
+pub mod Finding
+pub mod Writing
