@@ -161,12 +161,13 @@ fn small_books(rt: HostRuntime) -> Result<(), Fail> {
         };
         let twig = plan.twig(&rt, heap)?;
         for _ in 0..8 {
-            let regions = random.below(14).wrapping_add(1);
-            // Where there are many nodes and regions the lists are short, or else there are too many choices.
-            let part = if twig.len() < 4 || regions < 8 {
-                random.below(4).wrapping_add(1)
+            // Rather more regions than few, since in few there is little to find.
+            let regions = random.below(14).max(random.below(14)).wrapping_add(1);
+            // Where there are many nodes and regions the lists are shorter, or else there are too many choices.
+            let part = if twig.len() < 4 || regions < 10 {
+                random.below(3).wrapping_add(2)
             } else {
-                1
+                2
             };
             let closed = random.below(3).wrapping_add(2);
             let members = random_book(heap, &mut random, regions, part, closed)?;
