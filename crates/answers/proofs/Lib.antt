@@ -1,3 +1,4 @@
 pub mod Passing
 pub mod Embeddings
 pub mod Listings
+pub mod Runs

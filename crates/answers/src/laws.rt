@@ -1,5 +1,5 @@
 // The laws of answers in the tree of a text, each on the contract of a function.
-ghost use Rattle.answers.specs.Laws.{ListsHaveTreeEmbeddings, ListsHaveTheTreeListing, JustOneTreeListing, PlacesTellElements, ChildEdgesGoToTheNextAround, BandsAndWindowsAreListed};
+ghost use Rattle.answers.specs.Laws.{ListsHaveTreeEmbeddings, ListsHaveTheTreeListing, JustOneTreeListing, PlacesTellElements, ChildEdgesGoToTheNextAround, BandsAndWindowsAreListed, RunsListTheTree};
 
 // Where lists stand for the elements let through, the embeddings in the lists are the embeddings in the tree.
 pub fn lists_have_tree_embeddings()
@@ -29,4 +29,9 @@ pub fn child_edges_go_to_the_next_around()
 // A window on a band on the elements with the nodes' names lists what is embedded in elements within the levels and inside the span.
 pub fn bands_and_windows_are_listed()
     ensures { BandsAndWindowsAreListed }
+{}
+
+// Where the granted gather of a run met lists that stand for the elements let through, the run pages the listing in the tree.
+pub fn runs_list_the_tree()
+    ensures { RunsListTheTree }
 {}
