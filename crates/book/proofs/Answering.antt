@@ -21,7 +21,7 @@ use Rattle.book.proofs.Trees.{trees_are_lawful}
 pub granted_exactly : GrantedExactly
 granted_exactly text t = (sound text t, λ h. complete text h.0 h.1 h.2 ∙ ap Ok (sym h.3))
 
-granted : (text : List ℕ) (t : Tree) → read_book text ≡ Ok t → Grants text t
+pub granted : (text : List ℕ) (t : Tree) → read_book text ≡ Ok t → Grants text t
 granted text t e =
     let s = sound text t e in
     let same : s.0 ≡ nodes_of t = sym (ap nodes_of s.3 ∙ names_are_numbered s.0) in

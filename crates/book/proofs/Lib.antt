@@ -11,5 +11,5 @@ mod Complete
 mod Sound
 mod Forests
 mod Trees
-mod Refusals
+pub mod Refusals
 pub mod Answering
