@@ -1,2 +1,4 @@
 mod Reading
 mod Useful
+mod Finder
+mod Finding
