@@ -1,5 +1,5 @@
 -- What the finder lists, keeps and prints, computed.
-use Rattle.std.proofs.Common.{◌≡◌, ℕ, ◌<◌, ◌≤◌, Bool, true, leb, ltb, ◌*◌, ◌/◌, List, [], map, length, slice_index_or, filter, Ok, Err, Result, refl, sym, ap, ◌∙◌, subst, ⊎_elim, arith}
+use Rattle.std.proofs.Common.{◌≡◌, ℕ, ◌<◌, ◌≤◌, true, leb, ltb, ◌*◌, ◌/◌, List, [], map, slice_index_or, filter, Ok, Err, Result, refl, sym, ap, ◌∙◌, subst, ⊎_elim, arith}
 use Rattle.std.specs.Prelude.{codes}
 use Rattle.markup.specs.declared.fault.Fault.{Fault}
 use Rattle.pattern.specs.declared.node.Mark.TheVariants.{Any}
@@ -18,12 +18,11 @@ use Rattle.pattern.proofs.Trees.{granted_lawful}
 use Rattle.layout.specs.Encoding.{le16, le32}
 use Rattle.stream.specs.declared.region.Region.{Region}
 use Rattle.embedding.specs.Embedding.{node_count}
-use Rattle.answers.proofs.Listings.{lists, lists_stand}
-use Rattle.finding.specs.Finding.{all, UsefulElements, EnoughRows, TooFewRows, Prints}
+use Rattle.answers.proofs.Listings.{lists_stand}
+use Rattle.finding.specs.Finding.{all, UsefulElements, TooFewRows, Prints}
 use Rattle.examples.specs.Sample.{sample, sample_tree}
 use Rattle.examples.specs.Finding.{place, Lists, Useful, Enough, TooFew, ListingExamples, PrintingExamples}
-use Rattle.examples.proofs.Useful.{useful_in, stands}
-use Rattle.examples.proofs.Finder.{places_in, useful_of, places_listed, elements_useful, most_of, enough_rows, few_rows, printed, is_printed}
+use Rattle.finding.proofs.Computing.{places_in, useful_of, places_listed, elements_useful, most_of, enough_rows, few_rows, printed, is_printed}
 
 -- the useful elements of the nodes, as a table
 abbrev useful_table : Shape → Tree → List (List Region)

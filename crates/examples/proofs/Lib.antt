@@ -1,4 +1,2 @@
 mod Reading
-mod Useful
-mod Finder
 mod Finding

@@ -1,8 +1,8 @@
 -- What texts and patterns are read as, computed.
-use Rattle.std.proofs.Common.{◌≡◌, ℕ, List, [], Ok, Err, refl}
+use Rattle.std.proofs.Common.{[], refl}
 use Rattle.std.specs.Prelude.{codes}
 use Rattle.pattern.specs.Reading.{run_in}
-use Rattle.markup.specs.declared.fault.Refusal.TheVariants.{WrongEndTag, Unclosed, TopElement, Misfit}
+use Rattle.markup.specs.declared.fault.Refusal.TheVariants.{WrongEndTag, Unclosed, TopElement}
 use Rattle.markup.specs.Faults.{fault}
 use Rattle.layout.specs.Encoding.{le16, le32}
 use Rattle.book.proofs.Answering.{granted}

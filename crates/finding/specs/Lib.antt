@@ -3,3 +3,4 @@ pub mod Ending
 pub mod Pages
 pub mod Finding
 pub mod Writing
+pub mod Promises

@@ -5,5 +5,6 @@ mod ending;
 pub mod input;
 mod lines;
 mod pages;
+pub mod promises;
 
 pub use lines::find;

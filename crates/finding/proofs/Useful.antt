@@ -1,7 +1,6 @@
 -- The useful regions of each node, computed: those that stand there in one of the loose embeddings.
-use Rattle.std.proofs.Common.{◌≡◌, ℕ, zero, suc, ◌<◌, ◌≤◌, Bool, true, eqb, ◌&&◌, List, [], length, slice_index_or, max, filter, All, Contains as Has, Decides, refl, sym, ap, ◌∙◌, subst, ⊎_elim, arith}
+use Rattle.std.proofs.Common.{◌≡◌, ℕ, ◌<◌, Bool, true, eqb, ◌&&◌, List, slice_index_or, filter, Contains as Has, Decides, sym, ap, ◌∙◌, subst}
 use Rattle.std.specs.List.{Any, list_any}
-use Rattle.std.proofs.Math.Nat.{le-max_left, le-max_right}
 use Rattle.std.proofs.lemmas.Bool.Decides.{Decides-eqb, Decides-and, Decides-like}
 use Rattle.std.proofs.lemmas.List.Elements.{All-contains, filter_passes}
 use Rattle.std.proofs.lemmas.List.Folds.{Any-from_list_any, list_any_at}
@@ -10,8 +9,7 @@ use Rattle.pattern.specs.declared.node.Edge.TheVariants.{Descendant}
 use Rattle.pattern.specs.Shape.{Shape, LawfulTwig}
 use Rattle.stream.specs.declared.region.Region.{Region}
 use Rattle.stream.specs.Narrowing.{kept_part}
-use Rattle.embedding.specs.Embedding.{node_count, Loosely, Useful, Embeds}
-use Rattle.embedding.proofs.Lists.{has_whole}
+use Rattle.embedding.specs.Embedding.{node_count, Loosely, Useful}
 use Rattle.gather.specs.Gather.{UsefulLists}
 use Rattle.listing.proofs.Exists.{at, listed, at_listed, has_filter, test_across, tells_across, embedded, embeds, has_embedded}
 

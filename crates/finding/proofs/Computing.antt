@@ -1,8 +1,8 @@
 -- What the finder prints, computed.
-use Rattle.std.proofs.Common.{◌≡◌, ℕ, zero, suc, ◌*◌, ◌/◌, ◌<◌, ◌≤◌, ◌⊎◌, inl, inr, Bool, true, false, cond, leb, List, [], ◌++◌, map, length, max, Ok, Err, Result, refl, sym, ap, ◌∙◌, subst, ⊎_elim, arith}
+use Rattle.std.proofs.Common.{◌≡◌, ℕ, zero, suc, ◌*◌, ◌/◌, ◌<◌, ◌≤◌, true, false, cond, leb, List, ◌++◌, map, length, max, Ok, Err, Result, refl, sym, ◌∙◌, subst, ⊎_elim, arith}
 use Rattle.std.specs.Prelude.{flat_map}
 use Rattle.std.proofs.Math.Nat.{le-max_left, le-max_right, max-eq_left, max-eq_right}
-use Rattle.std.proofs.lemmas.Bool.{cases_lt, cond_both}
+use Rattle.std.proofs.lemmas.Bool.{cases_lt}
 use Rattle.std.proofs.lemmas.Bool.Decides.{leb_tells}
 use Rattle.markup.specs.declared.fault.Fault.{Fault}
 use Rattle.markup.specs.declared.fault.Refusal.TheVariants.{InputTooLong, SheetWontFit, FewRows}
@@ -10,7 +10,6 @@ use Rattle.markup.specs.Faults.{fault}
 use Rattle.tree.specs.Tree.{Tree, LawfulTree}
 use Rattle.layout.specs.Encoding.{sheet_of}
 use Rattle.book.specs.Reading.{read_book}
-use Rattle.book.specs.Answer.{Grants}
 use Rattle.book.proofs.Answering.{granted}
 use Rattle.book.proofs.Refusals.{refused_exactly}
 use Rattle.pattern.specs.Shape.{Shape, LawfulTwig}
@@ -28,7 +27,7 @@ use Rattle.answers.proofs.Listings.{lists, lists_stand, to_the_tree}
 use Rattle.report.specs.Lines.{place_line, end_line, refusal_line}
 use Rattle.finding.specs.Input.{pattern_in, text_in}
 use Rattle.finding.specs.Finding.{all, Reads, UsefulElements, EnoughRows, TooFewRows, Refuses, Prints}
-use Rattle.examples.proofs.Useful.{useful_in, useful_lists}
+use Rattle.finding.proofs.Useful.{useful_in, useful_lists}
 
 -- The listing in a tree, and the useful elements.
 
@@ -58,14 +57,14 @@ abbrev pub largest_of : ℕ → (ℕ → List Region) → ℕ
 largest_of zero xs = 0
 largest_of (suc n) xs = max (largest_of n xs) (length (xs n))
 
-is_bound : (n : ℕ) (xs : ℕ → List Region) (i : ℕ) → i < n → length (xs i) ≤ largest_of n xs
+pub is_bound : (n : ℕ) (xs : ℕ → List Region) (i : ℕ) → i < n → length (xs i) ≤ largest_of n xs
 is_bound zero xs i l = absurd (omega arith)
 is_bound (suc n) xs i l =
     ⊎_elim (λ (h : i < n). let b = is_bound n xs i h in let m = le-max_left (largest_of n xs) (length (xs n)) in omega (arith, b, m))
     (λ (h : n ≤ i). let e : n ≡ i = omega (arith, h, l) in subst (λ k. length (xs k) ≤ largest_of (suc n) xs) e (le-max_right (largest_of n xs) (length (xs n))))
     (cases_lt i n)
 
-abbrev Met : ℕ → (ℕ → List Region) → Type 0
+abbrev pub Met : ℕ → (ℕ → List Region) → Type 0
 Met n xs = (i : ℕ) × (i < n) × (length (xs i) ≡ largest_of n xs)
 
 met_more : (n : ℕ) (xs : ℕ → List Region) → (0 < n → Met n xs) → Met (suc n) xs
@@ -77,7 +76,7 @@ met_more (suc n) xs h =
     (λ (p : length (xs (suc n)) ≤ largest_of (suc n) xs). (m.0, omega (arith, m.1), m.2 ∙ sym (max-eq_left p)))
     (cases_lt (largest_of (suc n) xs) (length (xs (suc n))))
 
-is_met : (n : ℕ) (xs : ℕ → List Region) → 0 < n → Met n xs
+pub is_met : (n : ℕ) (xs : ℕ → List Region) → 0 < n → Met n xs
 is_met zero xs l = absurd (omega arith)
 is_met (suc n) xs l = met_more n xs (is_met n xs)
 
