@@ -1,5 +1,5 @@
 -- What the finder lists, keeps and prints, computed.
-use Rattle.std.proofs.Common.{◌≡◌, ℕ, ◌<◌, ◌≤◌, true, leb, ltb, ◌*◌, ◌/◌, List, [], map, slice_index_or, filter, Ok, Err, Result, refl, sym, ap, ◌∙◌, subst, ⊎_elim, arith}
+use Rattle.std.proofs.Common.{◌≡◌, ℕ, Bool, ◌<◌, ◌≤◌, true, leb, ltb, ◌*◌, ◌/◌, List, [], map, slice_index_or, filter, Ok, Err, Result, refl, sym, ap, ◌∙◌, subst, ⊎_elim, arith}
 use Rattle.std.specs.Prelude.{codes}
 use Rattle.markup.specs.declared.fault.Fault.{Fault}
 use Rattle.pattern.specs.declared.node.Mark.TheVariants.{Any}
@@ -11,6 +11,7 @@ use Rattle.std.proofs.lemmas.Bool.{cases_lt, leb-true, ltb-true}
 use Rattle.std.proofs.lemmas.List.{get_or_past}
 use Rattle.std.proofs.lemmas.List.FromFn.{get_or-map-range_with_len, length-map-range_with_len}
 use Rattle.book.proofs.Answering.{granted}
+use Rattle.tree.specs.declared.element.Element.{Element}
 use Rattle.tree.specs.Tree.{Tree, LawfulTree}
 use Rattle.pattern.specs.Shape.{Shape, LawfulTwig, shape}
 use Rattle.pattern.specs.Reading.{run_in, read_pattern}
@@ -54,8 +55,9 @@ module _ (pattern : List ℕ) (read : read_pattern pattern ≡ Ok (twig_of patte
   lawful : LawfulTwig s.nodes
   lawful = granted_lawful pattern s read
 
-  listed : (starts : List (List ℕ)) → places_in s sample_tree ≡ map place starts → Lists pattern starts
-  listed starts e = record { twig = s; read = read; listing = subst (TreeListing sample_tree s all) e (places_listed s sample_tree lawful sample_lawful) }
+  listed : (lets : ℕ → ℕ → Element → Bool) (starts : List (List ℕ)) → places_in s sample_tree lets ≡ map place starts → Lists lets pattern starts
+  listed lets starts e =
+      record { twig = s; read = read; listing = subst (TreeListing sample_tree s lets) e (places_listed s sample_tree lawful sample_lawful lets) }
 
   useful : (elements : List (List Region)) → useful_table s sample_tree ≡ elements → Useful pattern elements
   useful elements e = record {
@@ -75,16 +77,22 @@ module _ (pattern : List ℕ) (read : read_pattern pattern ≡ Ok (twig_of patte
 pub listing_examples : ListingExamples
 unfolding run_in
 listing_examples = record {
-  descendants = listed (codes "//b//p") refl _ refl;
+  descendants = listed (codes "//b//p") refl _ _ refl;
   four_rows = enough (codes "//b//p") refl 4 refl;
   three_rows = too_few (codes "//b//p") refl 3 4 refl refl;
-  branches = listed (codes "//b[p][p]") refl _ refl;
-  nothing = listed (codes "//b[p][n]") refl _ refl;
+  branches = listed (codes "//b[p][p]") refl _ _ refl;
+  nothing = listed (codes "//b[p][n]") refl _ _ refl;
   useful = useful (codes "//b[p][n]") refl _ refl;
   six_rows = enough (codes "//b[p][n]") refl 6 refl;
   five_rows = too_few (codes "//b[p][n]") refl 5 6 refl refl;
-  last_edge = listed (codes "//p/n") refl _ refl;
-  top = listed (codes "/p") refl _ refl;
+  last_edge = listed (codes "//p/n") refl _ _ refl;
+  top = listed (codes "/p") refl _ _ refl;
+  window = listed (codes "//p/n") refl _ _ refl;
+  narrow_window = listed (codes "//p") refl _ _ refl;
+  band = listed (codes "//b//n") refl _ _ refl;
+  low_band = listed (codes "//b//n") refl _ _ refl;
+  marks = listed (codes "//b//p") refl _ _ refl;
+  few_marks = listed (codes "//b//p") refl _ _ refl;
 }
 
 prints : (input : List ℕ) (room rows : ℕ) (ls : List ℕ) → printed input room rows ≡ ls → Prints input room rows ls

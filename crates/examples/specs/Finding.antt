@@ -1,9 +1,13 @@
 -- What the finder lists, keeps and prints.
-use Rattle.std.specs.Prelude.{◌≡◌, ℕ, List, [], ◌∷◌, ◌++◌, map, take, flat_map, Ok, codes, slice_index_or}
+use Rattle.std.specs.Prelude.{◌≡◌, ℕ, Bool, List, [], ◌∷◌, ◌++◌, map, take, flat_map, Ok, codes, slice_index_or}
 use Rattle.std.specs.List.{repeat}
+use Rattle.tree.specs.declared.element.Element.{Element}
 use Rattle.pattern.specs.Shape.{Shape}
 use Rattle.pattern.specs.Reading.{read_pattern}
 use Rattle.stream.specs.declared.region.Region.{Region}
+use Rattle.stream.specs.Regions.{region_of}
+use Rattle.stream.specs.Rules.{within, inside}
+use Rattle.chain.specs.Select.{marked}
 use Rattle.listing.specs.declared.place.Place.{Place}
 use Rattle.answers.specs.Trees.{TreeListing}
 use Rattle.finding.specs.Finding.{all, UsefulElements, EnoughRows, TooFewRows, Prints}
@@ -13,11 +17,24 @@ use Rattle.examples.specs.Sample.{sample, sample_tree}
 abbrev pub place : List ℕ → Place
 place starts = record { starts = take 16 (starts ++ repeat 16 (4294967295 ∷ [])) }
 
--- in the sample's tree the listing of the pattern has places with these starts, and no others
-pub record Lists (pattern : List ℕ) (starts : List (List ℕ)) : Type 0 where
+-- Where these elements of the sample are let through, the listing of the pattern in its tree has places with these starts, and no others.
+pub record Lists (lets : ℕ → ℕ → Element → Bool) (pattern : List ℕ) (starts : List (List ℕ)) : Type 0 where
   pub twig : Shape
   pub read : read_pattern pattern ≡ Ok twig
-  pub listing : TreeListing sample_tree twig all (map place starts)
+  pub listing : TreeListing sample_tree twig lets (map place starts)
+
+-- the elements inside a span
+abbrev pub spanned : ℕ → ℕ → ℕ → ℕ → Element → Bool
+spanned start last i k e = inside (record { start = start; «end» = last }) (region_of e)
+
+-- at node 0 all elements, and at node 1 those within these levels
+abbrev pub banded : ℕ → ℕ → ℕ → ℕ → Element → Bool
+banded lowest highest i k e =
+    within (record { ranges = record { lowest = 0; highest = 63 } ∷ record { lowest = lowest; highest = highest } ∷ [] }) i (region_of e)
+
+-- the elements with a mark byte other than 0
+abbrev pub with_mark : List ℕ → ℕ → ℕ → Element → Bool
+with_mark marks i k e = marked marks k
 
 abbrev pub region : ℕ → ℕ → ℕ → Region
 region start last level = record { start = start; «end» = last; level = level }
@@ -41,20 +58,29 @@ pub record TooFew (pattern : List ℕ) (rows needed : ℕ) : Type 0 where
   pub few : TooFewRows twig sample_tree rows needed
 
 pub record ListingExamples : Type 0 where
-  pub descendants : Lists (codes "//b//p") ((0 ∷ 3 ∷ []) ∷ (0 ∷ 14 ∷ []) ∷ [])
+  pub descendants : Lists all (codes "//b//p") ((0 ∷ 3 ∷ []) ∷ (0 ∷ 14 ∷ []) ∷ [])
   pub four_rows : Enough (codes "//b//p") 4
   pub three_rows : TooFew (codes "//b//p") 3 4
   -- two branches may have the same element
-  pub branches : Lists (codes "//b[p][p]") ((0 ∷ 3 ∷ 3 ∷ []) ∷ (0 ∷ 3 ∷ 14 ∷ []) ∷ (0 ∷ 14 ∷ 3 ∷ []) ∷ (0 ∷ 14 ∷ 14 ∷ []) ∷ [])
+  pub branches : Lists all (codes "//b[p][p]") ((0 ∷ 3 ∷ 3 ∷ []) ∷ (0 ∷ 3 ∷ 14 ∷ []) ∷ (0 ∷ 14 ∷ 3 ∷ []) ∷ (0 ∷ 14 ∷ 14 ∷ []) ∷ [])
   -- no note is a child of the book, so nothing is listed; but four elements are useful, since that reads every edge as a descendant edge
-  pub nothing : Lists (codes "//b[p][n]") []
+  pub nothing : Lists all (codes "//b[p][n]") []
   pub useful : Useful (codes "//b[p][n]") ((region 0 21 0 ∷ []) ∷ (region 3 10 1 ∷ region 14 17 1 ∷ []) ∷ (region 6 8 2 ∷ []) ∷ [])
   pub six_rows : Enough (codes "//b[p][n]") 6
   pub five_rows : TooFew (codes "//b[p][n]") 5 6
   -- only the first of the two has a note
-  pub last_edge : Lists (codes "//p/n") ((3 ∷ 6 ∷ []) ∷ [])
+  pub last_edge : Lists all (codes "//p/n") ((3 ∷ 6 ∷ []) ∷ [])
   -- no `p` is the top element
-  pub top : Lists (codes "/p") []
+  pub top : Lists all (codes "/p") []
+  -- windows: an element that starts before the span, or ends at its end, is not inside
+  pub window : Lists (spanned 1 21) (codes "//p/n") ((3 ∷ 6 ∷ []) ∷ [])
+  pub narrow_window : Lists (spanned 3 17) (codes "//p") ((3 ∷ []) ∷ [])
+  -- bands
+  pub band : Lists (banded 2 2) (codes "//b//n") ((0 ∷ 6 ∷ []) ∷ [])
+  pub low_band : Lists (banded 0 1) (codes "//b//n") []
+  -- marks; an element past the last mark byte is not marked
+  pub marks : Lists (with_mark (1 ∷ 0 ∷ 0 ∷ 255 ∷ [])) (codes "//b//p") ((0 ∷ 14 ∷ []) ∷ [])
+  pub few_marks : Lists (with_mark (1 ∷ 1 ∷ [])) (codes "//b//p") ((0 ∷ 3 ∷ []) ∷ [])
 
 -- an input of the finder
 abbrev pub input : List ℕ → List ℕ → List ℕ

@@ -1,5 +1,5 @@
 -- What the finder prints, computed.
-use Rattle.std.proofs.Common.{◌≡◌, ℕ, zero, suc, ◌*◌, ◌/◌, ◌<◌, ◌≤◌, true, false, cond, leb, List, ◌++◌, map, length, max, Ok, Err, Result, refl, sym, ◌∙◌, subst, ⊎_elim, arith}
+use Rattle.std.proofs.Common.{◌≡◌, ℕ, Bool, zero, suc, ◌*◌, ◌/◌, ◌<◌, ◌≤◌, true, false, cond, leb, List, ◌++◌, map, length, max, Ok, Err, Result, refl, sym, ◌∙◌, subst, ⊎_elim, arith}
 use Rattle.std.specs.Prelude.{flat_map}
 use Rattle.std.proofs.Math.Nat.{le-max_left, le-max_right, max-eq_left, max-eq_right}
 use Rattle.std.proofs.lemmas.Bool.{cases_lt}
@@ -7,6 +7,7 @@ use Rattle.std.proofs.lemmas.Bool.Decides.{leb_tells}
 use Rattle.markup.specs.declared.fault.Fault.{Fault}
 use Rattle.markup.specs.declared.fault.Refusal.TheVariants.{InputTooLong, SheetWontFit, FewRows}
 use Rattle.markup.specs.Faults.{fault}
+use Rattle.tree.specs.declared.element.Element.{Element}
 use Rattle.tree.specs.Tree.{Tree, LawfulTree}
 use Rattle.layout.specs.Encoding.{sheet_of}
 use Rattle.book.specs.Reading.{read_book}
@@ -31,17 +32,17 @@ use Rattle.finding.proofs.Useful.{useful_in, useful_lists}
 
 -- The listing in a tree, and the useful elements.
 
-abbrev pub places_in : Shape → Tree → List Place
-places_in s t = listing_of s (lists t s all)
+abbrev pub places_in : Shape → Tree → (ℕ → ℕ → Element → Bool) → List Place
+places_in s t lets = listing_of s (lists t s lets)
 
 abbrev pub useful_of : Shape → Tree → ℕ → List Region
 useful_of s t = useful_in s (lists t s all)
 
 module _ (s : Shape) (t : Tree) (twig : LawfulTwig s.nodes) (lawful : LawfulTree t) where
-  pub places_listed : TreeListing t s all (places_in s t)
-  places_listed =
-      to_the_tree t s all (map region_of t.elements) (lists t s all) lawful twig (lists_stand t s all) (places_in s t)
-      (is_listing (map region_of t.elements) (lists t s all) (parts_of t s.nodes all (map region_of t.elements) (lists t s all) lawful (lists_stand t s all)) s twig)
+  pub places_listed : (lets : ℕ → ℕ → Element → Bool) → TreeListing t s lets (places_in s t lets)
+  places_listed lets =
+      to_the_tree t s lets (map region_of t.elements) (lists t s lets) lawful twig (lists_stand t s lets) (places_in s t lets)
+      (is_listing (map region_of t.elements) (lists t s lets) (parts_of t s.nodes lets (map region_of t.elements) (lists t s lets) lawful (lists_stand t s lets)) s twig)
 
   pub elements_useful : UsefulElements s t (useful_of s t)
   elements_useful = record {
@@ -109,7 +110,7 @@ module _ (s : Shape) (t : Tree) (twig : LawfulTwig s.nodes) (lawful : LawfulTree
 -- The lines.
 
 abbrev pub lines_in : Shape → Tree → List ℕ
-lines_in s t = flat_map (place_line (node_count s)) (places_in s t) ++ end_line
+lines_in s t = flat_map (place_line (node_count s)) (places_in s t all) ++ end_line
 
 abbrev pub for_tree : Shape → Tree → ℕ → ℕ → List ℕ
 for_tree s t room rows =
@@ -139,7 +140,7 @@ module _ (input : List ℕ) (room rows : ℕ) where
   prints_for_tree s t reads twig =
       le_or_less (length (sheet_of t)) room _ _ (Prints input room rows)
       (λ fit. le_or_less (most_of s t) (rows / node_count s) _ _ (Prints input room rows)
-      (λ enough. Prints.listed s t (places_in s t) reads fit (enough_rows s t twig reads.text.lawful rows enough) (places_listed s t twig reads.text.lawful) refl)
+      (λ enough. Prints.listed s t (places_in s t all) reads fit (enough_rows s t twig reads.text.lawful rows enough) (places_listed s t twig reads.text.lawful all) refl)
       (λ few. Prints.refused (fault FewRows (node_count s * most_of s t))
       (Refuses.few_rows s t (node_count s * most_of s t) reads fit (few_rows s t twig reads.text.lawful rows few) refl) refl))
       (λ long. Prints.refused (fault SheetWontFit (length (sheet_of t))) (Refuses.long_sheet s t reads long refl) refl)

@@ -35,9 +35,9 @@ module _ (s : Shape) (t : Tree) (twig : LawfulTwig s.nodes) (lawful : LawfulTree
   parts : PartsOf (map region_of t.elements) (lists t s all)
   parts = parts_of t s.nodes all (map region_of t.elements) (lists t s all) lawful (lists_stand t s all)
 
-  one_listing : (ps : List Place) → TreeListing t s all ps → ps ≡ places_in s t
+  one_listing : (ps : List Place) → TreeListing t s all ps → ps ≡ places_in s t all
   one_listing ps l =
-      at_most_one_listing s (lists t s all) ps (places_in s t)
+      at_most_one_listing s (lists t s all) ps (places_in s t all)
       (to_the_lists t s all (map region_of t.elements) (lists t s all) lawful twig (lists_stand t s all) ps l)
       (is_listing (map region_of t.elements) (lists t s all) parts s twig)
 

@@ -44,7 +44,7 @@ module _ (s : Shape) (lawful : LawfulTwig s.nodes) (lists : ℕ → List Region)
   is_useful i l r h =
       let any : Any (λ rs. same_region (at rs i) r ≡ true) found
       = Any-from_list_any (λ rs. same_region (at rs i) r) found
-          (All-contains (λ q. stands found i q ≡ true) (useful_in s lists i) r (filter_passes (stands found i) (lists i)) h) in
+      (All-contains (λ q. stands found i q ≡ true) (useful_in s lists i) r (filter_passes (stands found i) (lists i)) h) in
       record {
         embedding = at (slice_index_or found any.0 any.1);
         embeds = embeds Loosely loosely tells_loosely s lists any.0 any.1 any.2;

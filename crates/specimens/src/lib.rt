@@ -3,3 +3,9 @@
 
 #[cfg(test)]
 mod books;
+#[cfg(test)]
+mod finder;
+#[cfg(test)]
+mod places;
+#[cfg(test)]
+mod searches;
