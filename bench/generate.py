@@ -1,10 +1,15 @@
-"""Writes the books of the benchmark into a folder. The same books come out each time.
+"""Writes the books of the benchmarks into a folder. The same books come out each time.
 
-text.book  16,000,000 bytes, most of it text: chapters, pages and paragraphs of a few lines
-tags.book   1,000,000 bytes, most of it tags, of ten names
-names.book  like tags.book, with 1,000 different names
+    generate.py FOLDER              the books of bench/outline.sh
+        text.book  16,000,000 bytes, most of it text: chapters, pages and paragraphs of a few lines
+        tags.book   1,000,000 bytes, most of it tags, of ten names
+        names.book  like tags.book, with 1,000 different names
+    generate.py FOLDER finder       the books of bench/finder, and beside each NAME.book its patterns as NAME.patterns
+        text-MB-NAMES.book  as text.book, with so many million bytes and names
+        tags-MB-NAMES.book  as tags.book; where there would be too many elements, with longer names
 """
 import random
+import re
 import sys
 from pathlib import Path
 
@@ -55,7 +60,12 @@ def lines(w, count):
     return "\n".join(line(w) for _ in range(count))
 
 
-def text_book(size):
+def same(name):
+    return name
+
+
+def text_book(size, name_of=same):
+    """Chapters, pages and paragraphs; name_of gives a name for a note, an item or a paragraph, which may differ each time."""
     w = Writer()
     w.put("<book>\n<title>A LONG READER</title>\n")
     page = 0
@@ -69,14 +79,17 @@ def text_book(size):
                 if kind == 0:
                     w.put("<blank/>\n")
                 elif kind == 1:
-                    w.put("<note>" + lines(w, 1) + "</note>\n")
+                    note = name_of("note")
+                    w.put(f"<{note}>" + lines(w, 1) + f"</{note}>\n")
                 elif kind == 2:
                     w.put("<list>\n")
                     for _ in range(2 + w.below(3)):
-                        w.put("<item>" + lines(w, 1 + w.below(2)) + "</item>\n")
+                        item = name_of("item")
+                        w.put(f"<{item}>" + lines(w, 1 + w.below(2)) + f"</{item}>\n")
                     w.put("</list>\n")
                 else:
-                    w.put("<par>" + lines(w, 3 + w.below(4)) + "</par>\n")
+                    par = name_of("par")
+                    w.put(f"<{par}>" + lines(w, 3 + w.below(4)) + f"</{par}>\n")
             w.put("</page>\n")
         w.put("</chapter>\n")
     tail = "</par>\n</book>\n"
@@ -133,8 +146,78 @@ def thousand_names():
     return name_of
 
 
+TEXT_PATTERNS = """
+//chapter/title
+/book/chapter/page/num
+//chapter//note
+//page[num]/note
+//page[note]/par
+//page/list/item
+//chapter[title]/page[num]/list/item
+//chapter[.//note]/page/blank
+//page[list/item]/par
+//page[note][list]/blank
+/book//list[item]/item
+//chapter/page[num][.//item]/par
+""".split()
+
+TAGS_PATTERNS = """
+//part/unit
+/book/part/unit/page
+//part//word
+//unit[num]/page
+//page[gap]/list/item
+//list[item][num]/gap
+//unit//item[num]/line
+//line[word]/num
+//book//page[word]//line/gap
+//part[gap]/unit//line
+//item[line/word]/line/num
+//part/unit[word]//list[num]/item//gap
+""".split()
+
+
+def padded(name):
+    """A name of 26 bytes."""
+    return name + "-" + "x" * (25 - len(name))
+
+
+def finder_books(folder):
+    def save(name, w, patterns):
+        w.save(folder / f"{name}.book")
+        (folder / f"{name}.patterns").write_text("\n".join(patterns) + "\n")
+
+    for size in 1, 4, 16:
+        for names in 10, 1024:
+            of = same if names == 10 else counted_names(names, ["note", "item", "par"])
+            save(f"text-{size}-{names}", text_book(size * 1_000_000, of), TEXT_PATTERNS)
+    for size, of in (1, same), (4, padded):
+        for names in 10, 1024:
+            kinds = counted_names(names, TEN[1:]) if names > 10 else same
+            patterns = TAGS_PATTERNS if of is same else [re.sub("[a-z]+", lambda m: padded(m[0]), p) for p in TAGS_PATTERNS]
+            save(f"tags-{size}-{names}", tags_book(size * 1_000_000, lambda kind: of(kinds(TEN[kind]))), patterns)
+
+
+def counted_names(most, kinds):
+    """Names by their kind: half of the time the kind itself, and otherwise in turn one of those that make up `most` with the ten kinds."""
+    turns = dict.fromkeys(kinds, 0)
+    each, rest = divmod(most - 10, len(kinds))
+    others = {kind: each + (k < rest) for k, kind in enumerate(kinds)}
+
+    def name_of(kind):
+        if kind not in turns:
+            return kind
+        turns[kind] += 1
+        return kind if turns[kind] % 2 else f"{kind}{turns[kind] // 2 % others[kind]:03}"
+
+    return name_of
+
+
 def main():
     folder = Path(sys.argv[1])
+    if sys.argv[2:] == ["finder"]:
+        finder_books(folder)
+        return
     text_book(16_000_000).save(folder / "text.book")
     tags_book(1_000_000, ten_names).save(folder / "tags.book")
     tags_book(1_000_000, thousand_names()).save(folder / "names.book")
