@@ -1,7 +1,8 @@
 // What the exported calls give back.
 ghost use Rattle.std.specs.Prelude.{◌≡◌};
+ghost use Rattle.twigfinder.specs.Answers.{answer_of};
 
-use markup::{Error, Fault};
+use markup::Error;
 use stream::POSITIONS;
 
 // The number for want of memory: no refusal has it.
@@ -23,17 +24,9 @@ pub struct Starts {
     pub starts: [u32; POSITIONS],
 }
 
-impl From<Fault> for Answer {
-    fn from(f: Fault) -> Answer {
-        Answer {
-            number: u32::from(f.refusal.number()),
-            place: f.place,
-            count: 0,
-        }
-    }
-}
-
 impl From<Result<usize, Error>> for Answer {
+    ghost from_gives = { λ r a. a ≡ answer_of r };
+
     fn from(r: Result<usize, Error>) -> Answer {
         match r {
             Ok(count) => Answer {
@@ -41,7 +34,11 @@ impl From<Result<usize, Error>> for Answer {
                 place: 0,
                 count,
             },
-            Err(Error::Refused(f)) => Answer::from(f),
+            Err(Error::Refused(f)) => Answer {
+                number: u32::from(f.refusal.number()),
+                place: f.place,
+                count: 0,
+            },
             Err(Error::Memory) => Answer {
                 number: MEMORY,
                 place: 0,

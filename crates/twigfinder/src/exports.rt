@@ -1,40 +1,55 @@
 // The exported functions.
+ghost use Rattle.index.specs.Indexing.{Indexed};
+ghost use Rattle.twigfinder.specs.Answers.{Answers};
+ghost use Rattle.twigfinder.specs.Calls.{Checked, Spelled, Found, Counted};
+
 use crate::answer::{Answer, Starts};
 use crate::pages;
-use markup::{Error, Fault};
+use markup::Error;
 use pattern::Twig;
 use sheet::SheetView;
 use std::alloc::Global;
 
 // Checks a sheet.
-fn check(bytes: &[u8]) -> Result<usize, Fault> {
+fn check(bytes: &[u8]) -> Result<usize, Error>
+    ensures { Checked bytes.now result }
+{
     SheetView::new().open(bytes)?;
     Ok(bytes.len())
 }
 
 // Writes the standard spelling of a pattern.
-fn spell(pattern: &[u8], out: &mut [u8]) -> Result<usize, Fault> {
+fn spell(pattern: &[u8], out: &mut [u8]) -> Result<usize, Error>
+    ensures { Spelled pattern.now out.old out.new result }
+{
     let mut twig = Twig::new();
     twig.read(pattern)?;
-    twig.spell(out)
+    let len = twig.spell(out)?;
+    Ok(len)
 }
 
 // Writes the sheet of a book text from byte 0 on; its length.
 #[unsafe(no_mangle)]
-pub extern "C" fn twigfinder_index(heap: Global, text: &[u8], sheet: &mut [u8]) -> Answer {
+pub extern "C" fn twigfinder_index(heap: Global, text: &[u8], sheet: &mut [u8]) -> Answer
+    ensures { Answers (Indexed text.now sheet.old sheet.new) result }
+{
     Answer::from(index::index(heap, text, sheet))
 }
 
 // Whether the bytes are a lawful sheet; their length.
 #[unsafe(no_mangle)]
-pub extern "C" fn twigfinder_check(sheet: &[u8]) -> Answer {
-    Answer::from(check(sheet).map_err(Error::from))
+pub extern "C" fn twigfinder_check(sheet: &[u8]) -> Answer
+    ensures { Answers (Checked sheet.now) result }
+{
+    Answer::from(check(sheet))
 }
 
 // Writes the standard spelling of a pattern from byte 0 on; its length.
 #[unsafe(no_mangle)]
-pub extern "C" fn twigfinder_spell(pattern: &[u8], out: &mut [u8]) -> Answer {
-    Answer::from(spell(pattern, out).map_err(Error::from))
+pub extern "C" fn twigfinder_spell(pattern: &[u8], out: &mut [u8]) -> Answer
+    ensures { Answers (Spelled pattern.now out.old out.new) result }
+{
+    Answer::from(spell(pattern, out))
 }
 
 // Writes the places of the embeddings after the first `skip`, as many as fit; how many.
@@ -46,7 +61,9 @@ pub extern "C" fn twigfinder_find(
     rows: usize,
     skip: usize,
     out: &mut [Starts],
-) -> Answer {
+) -> Answer
+    ensures { Answers (Found sheet.now pattern.now rows skip out.old out.new) result }
+{
     Answer::from(pages::find(heap, sheet, pattern, rows, skip, out))
 }
 
@@ -57,6 +74,8 @@ pub extern "C" fn twigfinder_count(
     sheet: &[u8],
     pattern: &[u8],
     rows: usize,
-) -> Answer {
+) -> Answer
+    ensures { Answers (Counted sheet.now pattern.now rows) result }
+{
     Answer::from(pages::count(heap, sheet, pattern, rows))
 }

@@ -1,0 +1,2 @@
+pub mod Paging
+pub mod Finding
