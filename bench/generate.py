@@ -178,8 +178,8 @@ TAGS_PATTERNS = """
 
 
 def padded(name):
-    """A name of 26 bytes."""
-    return name + "-" + "x" * (25 - len(name))
+    """A name of 28 bytes."""
+    return name + "-" + "x" * (27 - len(name))
 
 
 def finder_books(folder):
