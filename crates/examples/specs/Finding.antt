@@ -5,6 +5,7 @@ use Rattle.tree.specs.declared.element.Element.{Element}
 use Rattle.pattern.specs.Shape.{Shape}
 use Rattle.pattern.specs.Reading.{read_pattern}
 use Rattle.stream.specs.declared.region.Region.{Region}
+use Rattle.stream.specs.declared.rule.LevelRange.{LevelRange}
 use Rattle.stream.specs.Regions.{region_of}
 use Rattle.stream.specs.Rules.{within, inside}
 use Rattle.chain.specs.Select.{marked}
@@ -27,10 +28,13 @@ pub record Lists (lets : ℕ → ℕ → Element → Bool) (pattern : List ℕ) 
 abbrev pub spanned : ℕ → ℕ → ℕ → ℕ → Element → Bool
 spanned start last i k e = inside (record { start = start; «end» = last }) (region_of e)
 
--- at node 0 all elements, and at node 1 those within these levels
+abbrev pub level_range : ℕ → ℕ → LevelRange
+level_range lowest highest = record { lowest = lowest; highest = highest }
+
+-- at node 1 the elements within these levels, and at every other node all elements
 abbrev pub banded : ℕ → ℕ → ℕ → ℕ → Element → Bool
 banded lowest highest i k e =
-    within (record { ranges = record { lowest = 0; highest = 63 } ∷ record { lowest = lowest; highest = highest } ∷ [] }) i (region_of e)
+    within (record { ranges = level_range 0 63 ∷ level_range lowest highest ∷ repeat 14 (level_range 0 63 ∷ []) }) i (region_of e)
 
 -- the elements with a mark byte other than 0
 abbrev pub with_mark : List ℕ → ℕ → ℕ → Element → Bool

@@ -1,7 +1,9 @@
 -- What texts and patterns are read as.
-use Rattle.std.specs.Prelude.{◌≡◌, ℕ, List, [], ◌∷◌, length, Ok, codes}
-use Rattle.markup.specs.declared.fault.Refusal.TheVariants.{WrongEndTag, Unclosed, TopElement, Misfit}
+use Rattle.std.specs.Prelude.{◌≡◌, ℕ, List, [], ◌∷◌, ◌++◌, length, Ok, codes}
+use Rattle.std.specs.List.{repeat}
+use Rattle.markup.specs.declared.fault.Refusal.TheVariants.{WrongEndTag, Unclosed, TopElement, TooDeep, Misfit}
 use Rattle.markup.specs.Faults.{fault}
+use Rattle.tree.specs.Tree.{Tree}
 use Rattle.layout.specs.Encoding.{sheet_of}
 use Rattle.book.specs.Answer.{Grants}
 use Rattle.book.specs.Refusing.{Refuses}
@@ -25,6 +27,9 @@ pub record ReadingExamples : Type 0 where
   pub unclosed : Refuses (codes "<a><b></b>") (fault Unclosed 0)
   pub empty_text : Refuses [] (fault TopElement 0)
   pub two_elements : Refuses (codes "<a/><a/>") (fault TopElement 4)
+  -- 64 elements one in the other are granted, and a 65th is refused
+  pub nested : (t : Tree) × Grants (repeat 64 (codes "<a>") ++ repeat 64 (codes "</a>")) t × (length t.elements ≡ 64)
+  pub too_deep : Refuses (repeat 65 (codes "<a>")) (fault TooDeep 192)
   -- patterns as twigs
   pub descendants : read_pattern (codes "//b//p") ≡ Ok (shape Any (node (codes "b") 0 Child ∷ node (codes "p") 0 Descendant ∷ []))
   pub branches : read_pattern (codes "/b[.//n]/p") ≡ Ok (shape Top (node (codes "b") 0 Child ∷ node (codes "n") 0 Descendant ∷ node (codes "p") 0 Child ∷ []))
