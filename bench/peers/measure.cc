@@ -175,7 +175,7 @@ int main(int argc, char **argv) {
         double spent = 0;
         for (int round = 0; round < rounds && spent < 2e6; round++) {
             double start = now();
-            for (Timed *t : {&ours, &theirs, &pugis})
+            for (Timed *t : {&ours, &check, &theirs, &pugis})
                 t->run();
             spent += now() - start;
         }

@@ -1,9 +1,10 @@
-"""Prints the rows of measure as the tables of docs/SPEED.md: table.py < ROWS."""
+"""Prints the rows of measure as the tables of docs/SPEED.md: table.py < ROWS. The padding of long names is left out."""
+import re
 import sys
 
 reads, finds = [], []
 for row in sys.stdin:
-    kind, *fields = row.rstrip("\n").split("|")
+    kind, *fields = re.sub("-x+", "-..", row.rstrip("\n")).split("|")
     (reads if kind == "read" else finds).append(fields)
 
 
