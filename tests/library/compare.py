@@ -152,11 +152,16 @@ LIMITS = [
 def main():
     inputs = int(sys.argv[1]) if len(sys.argv) > 1 else 3000
     r = random.Random(int(sys.argv[2]) if len(sys.argv) > 2 else 1)
-    agree, differ, refused, embedded = 0, 0, 0, 0
+    agree, differ, refused, embedded, left = 0, 0, 0, 0, 0
     cases = LIMITS + [case(r, KINDS[k % len(KINDS)]) for k in range(inputs)]
     for wanted, text in cases:
-        ours = answer(lambda: by_library(r, wanted, text, r.choice([1, 7, 65_536]) if len(text) < 1000 else 65_536))
-        theirs = answer(lambda: brute.find(wanted, text))
+        try:
+            theirs = answer(lambda: brute.find(wanted, text))
+        except brute.TooLong:
+            left += 1
+            continue
+        few = not isinstance(theirs, list) or len(theirs) < 100
+        ours = answer(lambda: by_library(r, wanted, text, r.choice([1, 7, 65_536]) if few else 65_536))
         spelled = answer(lambda: twigfinder.spell(wanted))
         if ours == theirs and spelled == answer(lambda: brute.spelling(*brute.read_pattern(wanted))):
             agree += 1
@@ -165,7 +170,9 @@ def main():
         else:
             differ += 1
             print(f"differs: {wanted!r} in {text[:200]!r}: {str(ours)[:200]} and {str(theirs)[:200]}")
-    print(f"{agree} of {len(cases)} inputs agree: {agree - refused} granted with {embedded} embeddings, {refused} refused")
+    print(f"{agree} of {len(cases) - left} inputs agree: {agree - refused} granted with {embedded} embeddings, {refused} refused")
+    if left:
+        print(f"{left} more took the brute force too long")
     sys.exit(differ > 0)
 
 
