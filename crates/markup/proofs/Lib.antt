@@ -1,3 +1,4 @@
 pub mod Leading
 pub mod Names
+pub mod Runs
 pub mod Granted

@@ -29,5 +29,8 @@ pub fn run<C: Class>(bytes: &[u8]) -> usize
     ensures value { result ≡ prefix_len C.member bytes.now }
     ensures within { result ≤ length bytes.now }
 {
-    bytes.iter().take_while(|b| C::has(**b)).count()
+    bytes
+        .iter()
+        .position(|b| !C::has(*b))
+        .unwrap_or(bytes.len())
 }
