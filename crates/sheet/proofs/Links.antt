@@ -1,8 +1,7 @@
 -- The pass from the back over the elements' next numbers.
-use Rattle.std.proofs.Common.{◌≡◌, ℕ, ◌+◌, ◌<◌, ◌≤◌, List, Option, Some, None, Bool, not, eqb, IfSome, MatchBool, length, get_or, set, replicate, subst, ⊎_elim, arith}
+use Rattle.std.proofs.Common.{◌≡◌, ℕ, ◌+◌, ◌<◌, ◌≤◌, List, Option, Some, None, unwrap_or, MatchBool, leb, length, get_or, set, replicate, subst, ⊎_elim, arith}
 use Rattle.std.proofs.lemmas.List.{get_or-set_same, get_or-set_other, get_or-replicate}
-use Rattle.std.proofs.lemmas.Bool.{cases_eq, eq-eqb, ne_eqb}
-use Rattle.std.specs.Option.{option_eq}
+use Rattle.std.proofs.lemmas.Bool.{cases_eq, cases_lt, le-leb, lt-leb}
 use Rattle.layout.specs.Layout.{element_count, name_count, element_at, next_at}
 use Rattle.layout.specs.Lawful.{FirstFrom, FirstNamed, RightNumbers, used}
 use Rattle.layout.proofs.Firsts.{first_unique, first_none, first_yes, first_no}
@@ -48,10 +47,16 @@ module _ (bs : List ℕ) (k m x : ℕ) (h : k < element_count bs) (next : m ≡ 
     here = grind (arith, first_unique, nearest);
   }
 
--- the numbers of element k, where its name number is right, and wrong is the lowest element whose next is wrong
-pub right_numbers : (bs : List ℕ) (k : ℕ) (wrong : Option ℕ) (r : Bool) → r ≡ not (option_eq eqb wrong (Some k)) → LinkedFrom bs 0 wrong → IfSome wrong (λ w. k ≤ w)
-    → k < element_count bs → (element_at bs k).name < 1024 → (element_at bs k).name < name_count bs → (element_at bs k).name ≤ used bs k
-    → MatchBool r (RightNumbers bs k × IfSome wrong (λ w. k < w)) (RightNumbers bs k → ⊥)
-right_numbers bs k None r e a b h small named fresh = grind arith
-right_numbers bs k (Some w) r e a b h small named fresh =
-    ⊎_elim (λ (p : w ≡ k). rw (e, eq-eqb w k p) (λ n. a.here (grind arith))) (λ (p : w ≡ k → ⊥). rw (e, ne_eqb w k p) (grind arith)) (cases_eq w k)
+-- an element below the lowest one whose next is wrong
+pub linked_below : (bs : List ℕ) (wrong : Option ℕ) (k : ℕ) → LinkedFrom bs 0 wrong → k < unwrap_or wrong (element_count bs) → (k < element_count bs) × RightLink bs 0 k
+linked_below bs None k a h = (h, a k h)
+linked_below bs (Some w) k a h = let l = a.within in (omega arith, a.before k h)
+
+-- the numbers of element k, where its name number is one of a name and its next is right
+pub right_numbers : (bs : List ℕ) (k x seen : ℕ) → x ≡ (element_at bs k).name → seen ≡ used bs k → (element_at bs k).name < name_count bs → RightNext bs k
+    → MatchBool (leb x seen) (RightNumbers bs k) (RightNumbers bs k → ⊥)
+right_numbers bs k x seen is all named next =
+    ⊎_elim
+    (λ (p : seen < x). rw (lt-leb x seen p) (λ n. let f = n.fresh in omega arith))
+    (λ (p : x ≤ seen). rw (le-leb x seen p) (record { named = named; fresh = omega arith; next = next }))
+    (cases_lt seen x)

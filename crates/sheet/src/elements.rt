@@ -1,11 +1,11 @@
 // Checks the element records of a sheet.
-ghost use Rattle.std.specs.Prelude.{◌≡◌, ◌+◌, ◌-◌, ◌<◌, ◌≤◌, length, MatchBool, MatchResult, IfSome, slice_index};
+ghost use Rattle.std.specs.Prelude.{◌≡◌, ◌+◌, ◌-◌, ◌<◌, ◌≤◌, length, MatchBool, MatchOption, MatchResult, slice_index};
 ghost use Rattle.tree.specs.Region.{Fits};
 ghost use Rattle.layout.specs.Layout.{element_count, region_at};
 ghost use Rattle.layout.specs.Lawful.{RightElement, RightNumbers, used};
 ghost use Rattle.sheet.specs.Opening.{WrongElement, Each};
 ghost use Rattle.sheet.specs.Stack.{Stack, last_start};
-ghost use Rattle.sheet.specs.Links.{LinkedFrom, Firsts};
+ghost use Rattle.sheet.specs.Links.{RightLink, LinkedFrom, Firsts};
 
 use crate::records::{self, Records};
 use arrayvec::ArrayVec;
@@ -43,19 +43,25 @@ pub(crate) fn read_links(records: &Records) -> Links
 }
 
 // The records, the open elements and k go apart, here and below, since what holds of them together fails where k does not fit.
-// Closes those of the open elements, `stack`, outermost first, that end below the start of element k.
-fn close(records: &Records, stack: &mut ArrayVec<u32, MOST_LEVELS>, k: u32)
+// Closes those of the open elements, `stack`, outermost first, that end below the start of element k, and tells where the
+// innermost of those that are left ends.
+fn close(records: &Records, stack: &mut ArrayVec<u32, MOST_LEVELS>, k: u32) -> Option<u32>
     requires within { k < element_count records.now.bytes.now }
     requires opened { Stack (region_at records.now.bytes.now) k (region_at records.now.bytes.now k).start stack.old.items }
     ensures opened { Stack (region_at records.now.bytes.now) k (region_at records.now.bytes.now k).start stack.new.items }
     ensures top { 0 < length stack.new.items → (region_at records.now.bytes.now k).start ≤ (region_at records.now.bytes.now (slice_index stack.new.items (length stack.new.items - 1))).end }
+    ensures around { MatchOption result (length stack.new.items ≡ 0) (λ end. (0 < length stack.new.items) × (end ≡ (region_at records.now.bytes.now (slice_index stack.new.items (length stack.new.items - 1))).end)) }
 {
     let start = records.element(k).start;
-    while let Some(top) = stack.last()
-        && records.element(*top).end < start
-    {
-        stack.pop();
+    while let Some(top) = stack.last() {
+        let end = records.element(*top).end;
+        if end >= start {
+            return Some(end);
+        }
+        // Not `pop`, which stores the length before the place, so that each step would load it again.
+        stack.truncate(stack.len() - 1);
     }
+    None
 }
 
 // Opens element k within those of the open elements that do not end before it, where its region fits among those before it.
@@ -72,45 +78,46 @@ fn place(records: &Records, stack: &mut ArrayVec<u32, MOST_LEVELS>, k: u32) -> b
     if k > 0 && e.start <= records.element(k - 1).start {
         return false;
     }
-    close(records, stack, k);
-    let depth = stack.len();
-    if depth != e.level as usize || (depth == 0 && k > 0) {
+    let around = close(records, stack, k);
+    if let Some(end) = around
+        && end <= e.end
+    {
         return false;
     }
-    if let Some(top) = stack.last()
-        && records.element(*top).end <= e.end
-    {
+    let depth = stack.len();
+    if depth != e.level as usize || (depth == 0 && k > 0) {
         return false;
     }
     stack.push(k);
     true
 }
 
-// Whether the name number and the next of element k are right, where the elements before it use `seen` name numbers and
-// `wrong` is the lowest element whose next is wrong.
-fn has_right_numbers(records: &Records, seen: u32, wrong: Option<u32>, k: u32) -> bool
+// Whether the name number of element k is right, where the elements before it use `seen` name numbers and its next is right.
+fn has_right_numbers(records: &Records, seen: u32, k: u32) -> bool
     requires within { k < element_count records.now.bytes.now }
     requires seen { seen ≡ used records.now.bytes.now k }
-    requires linked { LinkedFrom records.now.bytes.now 0 wrong }
-    requires before { IfSome wrong (λ w. k ≤ w) }
-    ensures { MatchBool result (RightNumbers records.now.bytes.now k × IfSome wrong (λ w. k < w)) (RightNumbers records.now.bytes.now k → ⊥) }
+    requires linked { RightLink records.now.bytes.now 0 k }
+    ensures { MatchBool result (RightNumbers records.now.bytes.now k) (RightNumbers records.now.bytes.now k → ⊥) }
 {
     let name = records.element(k).name as u32;
-    name < records.name_count() && name <= seen && wrong != Some(k)
+    name < records.name_count() && name <= seen
 }
 
-// The element records in order, where `wrong` is the lowest one whose next is wrong.
+// The element records in order, up to `wrong`, the lowest one whose next is wrong.
 pub(crate) fn check_elements(records: &Records, wrong: Option<u32>) -> Result<(), Fault>
     requires { LinkedFrom records.now.bytes.now 0 wrong }
     ensures { MatchResult result (λ _. Each (RightElement records.now.bytes.now) (element_count records.now.bytes.now)) (λ f. WrongElement records.now.bytes.now f) }
 {
     let mut stack = ArrayVec::new();
     let mut seen = 0;
-    for k in 0..records.element_count() {
-        if !place(records, &mut stack, k) || !has_right_numbers(records, seen, wrong, k) {
+    for k in 0..wrong.unwrap_or(records.element_count()) {
+        if !place(records, &mut stack, k) || !has_right_numbers(records, seen, k) {
             return Err(Refusal::ElementRecord.at(records::element_offset(k)));
         }
         seen = seen.max(records.element(k).name as u32 + 1);
     }
-    Ok(())
+    match wrong {
+        Some(k) => Err(Refusal::ElementRecord.at(records::element_offset(k))),
+        None => Ok(()),
+    }
 }
