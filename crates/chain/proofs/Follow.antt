@@ -28,11 +28,11 @@ pass bs n (suc s) a (suc m) h l =
     rw (no, p, q) (pass bs n s (a + 1) m (λ i u v. h i (omega arith) (omega arith)) (omega arith))
 
 -- there is none past the last
-ended : (bs : List ℕ) (n k : ℕ) → element_count bs ≤ k → named bs n k ≡ []
+pub ended : (bs : List ℕ) (n k : ℕ) → element_count bs ≤ k → named bs n k ≡ []
 ended bs n k h = let z : element_count bs - k ≡ 0 = omega arith in rw z
 
 -- from m on, the elements with a name are those from the first one on
-from_first : (bs : List ℕ) (n m k : ℕ) → FirstNamed bs n m k → named bs n m ≡ chain_from bs (Some k)
+pub from_first : (bs : List ℕ) (n m k : ℕ) → FirstNamed bs n m k → named bs n m ≡ chain_from bs (Some k)
 from_first bs n m k f =
     let c : m + (k - m) ≡ k = omega (arith, f.from) in
     let d : (element_count bs - m) - (k - m) ≡ element_count bs - k = omega (arith, f.from, f.within) in
@@ -47,7 +47,7 @@ pub from_first_if_any : (bs : List ℕ) (n m : ℕ) (o : Option ℕ) → FirstIf
 from_first_if_any bs n m None f = from_first bs n m (element_count bs) f ∙ ended bs _ (element_count bs) (omega arith)
 from_first_if_any bs n m (Some k) f = from_first bs n m k f.1
 
-chain_step : (bs : List ℕ) → LawfulSheet bs → (k : ℕ) → k < element_count bs → chain_from bs (Some k) ≡ k ∷ chain_from bs (next_in bs k)
+pub chain_step : (bs : List ℕ) → LawfulSheet bs → (k : ℕ) → k < element_count bs → chain_from bs (Some k) ≡ k ∷ chain_from bs (next_in bs k)
 chain_step bs law k h =
     let w = (element_at bs k).name in
     let e : element_count bs - k ≡ suc (element_count bs - (k + 1)) = omega arith in

@@ -24,6 +24,19 @@ fn head(view: &SheetView, twig: &Twig, i: usize) -> Option<u32>
     view.first(j)
 }
 
+// Sets a head. Where it has a number before and after, the number alone is written, since a walk is slower where all of it is.
+fn set_head(head: &mut Option<u32>, next: Option<u32>)
+    ensures { head.new ≡ next }
+{
+    if let Some(k) = head
+        && let Some(next) = next
+    {
+        *k = next;
+    } else {
+        *head = next;
+    }
+}
+
 // For each position the number of an element, if its list has one left. The list has the elements from there on with the name of
 // this element, as far as they are selected.
 #[derive(Clone, Copy, Drop)]
@@ -86,7 +99,8 @@ impl<'b, M: Select> Chains<'b, M> {
             if self.select.select(k) {
                 return Some(k);
             }
-            self.heads[i] = self.view.next(k);
+            let next = self.view.next(k);
+            set_head(&mut self.heads[i], next);
         }
         None
     }
@@ -106,7 +120,8 @@ impl<'b, M: Select> StreamSet for Chains<'b, M> {
 
     fn advance(&mut self, i: usize) {
         if let Some(taken) = self.first(i) {
-            self.heads[i] = self.view.next(taken);
+            let next = self.view.next(taken);
+            set_head(&mut self.heads[i], next);
         }
     }
 }

@@ -1,5 +1,5 @@
 -- A change at one position, and the front of a list.
-use Rattle.std.proofs.Common.{◌≡◌, ℕ, ◌+◌, Bool, true, false, cond, eqb, List, [], ◌∷◌, length, is_some, sym, refl, ap, ◌∙◌, arith, eq-eqb, eqb-true}
+use Rattle.std.proofs.Common.{◌≡◌, ℕ, ◌+◌, Bool, true, false, cond, eqb, List, [], ◌∷◌, length, Some, is_some, sym, refl, ap, ◌∙◌, arith, eq-eqb, eqb-true}
 use Rattle.std.proofs.Math.Path.{fun_ext}
 use Rattle.std.proofs.lemmas.Bool.{cond_both, cond-true}
 use Rattle.stream.specs.declared.region.Region.{Region}
@@ -32,6 +32,10 @@ update_fixed i f lists h = update_same i f (λ xs. xs) lists h ∙ update_id i l
 pub nil_from_first : (xs : List Region) → is_some (first xs) ≡ false → xs ≡ []
 nil_from_first [] e = refl
 nil_from_first (x ∷ xs) e = cc
+
+pub cons_from_first : (xs : List Region) (r : Region) → first xs ≡ Some r → xs ≡ r ∷ rest xs
+cons_from_first [] r e = cc
+cons_from_first (x ∷ xs) r e = cc
 
 pub one_from_first : (xs : List Region) → is_some (first xs) ≡ true → length xs ≡ length (rest xs) + 1
 one_from_first [] e = cc

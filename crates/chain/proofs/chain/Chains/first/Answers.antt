@@ -9,7 +9,7 @@ loop-k-smaller g c =
     let selects = g.M.Select.selects self.select in
     let n : length self.heads ≡ 16 = search rules in
     let head : get_or self.heads c.args.i None ≡ Some c.in-Some.k = search rules in
-    steps_left self.view.bytes.now (lawful_of _ self.view.lawful) selects self.heads n c.args.i c.in-Some.k head c.next.result c.next.ensures
+    steps_left self.view.bytes.now (lawful_of _ self.view.lawful) selects self.heads n c.args.i c.in-Some.k head c.set_head.new.head (c.set_head.ensures ∙ c.next-next.ensures)
 
 pub loop-k-preserved : goal.loop-k-preserved
 loop-k-preserved g c =
@@ -17,5 +17,5 @@ loop-k-preserved g c =
     let selects = g.M.Select.selects self.select in
     let n : length self.heads ≡ 16 = search rules in
     let head : get_or self.heads c.args.i None ≡ Some c.in-Some.k = search rules in
-    let over = next_passed self.view.bytes.now (lawful_of _ self.view.lawful) selects self.heads n c.args.i c.in-Some.k head c.next.result c.next.ensures (sym c.select.ensures ∙ c.if-select.false) in
+    let over = next_passed self.view.bytes.now (lawful_of _ self.view.lawful) selects self.heads n c.args.i c.in-Some.k head c.set_head.new.head (c.set_head.ensures ∙ c.next-next.ensures) (sym c.select.ensures ∙ c.if-select.false) in
     (over ∙ c.loop-k.invariant.0, c.loop-k.invariant.1, cc)

@@ -18,7 +18,7 @@ returns-in-Some-clause-less g c =
     let selects = g.M.Select.selects self.select in
     let n = c.first.ensures.positions in
     let taken : selects c.in-Some.taken ≡ true = subst (λ head. IfSome head (λ k. selects k ≡ true)) c.in-Some.is c.first.ensures.selected in
-    next_taken self.view.bytes.now (lawful_of _ self.view.lawful) selects self.heads n c.args.i c.in-Some.taken (sym c.first.ensures.head ∙ c.in-Some.is) _ c.next.ensures taken
+    next_taken self.view.bytes.now (lawful_of _ self.view.lawful) selects self.heads n c.args.i c.in-Some.taken (sym c.first.ensures.head ∙ c.in-Some.is) c.set_head.new.head (c.set_head.ensures ∙ c.next-next.ensures) taken
     ∙ ap (update c.args.i rest) c.first.ensures.same
 
 pub returns-in_default-clause-less : goal.returns-in_default-clause-less
