@@ -65,7 +65,7 @@ module _ (x : Reader) (depth : ℕ) (m : Mark) (k : ℕ) (hs : List ℕ) (d : le
       ∙ ap Err (sym a.2)
 
   module _ (o : Opened depth x.cursor y (Ok true)) where
-    opens : outcome x m k hs step ≡ reads_on y (state x m k (k ∷ hs) bracket)
+    pub opens : outcome x m k hs step ≡ reads_on y (state x m k (k ∷ hs) bracket)
     opens =
         taken x.cursor y 91 o.0 (state x m k hs step)
         ∙ ap (λ v. feed x.cursor.place v (reads_on y)) (cond-false _ _ _ (lt-leb 8 (length hs) (omega (arith, d, o.1 refl))))

@@ -1,7 +1,7 @@
 -- How the reading of a text goes on by one byte, and by a name.
-use Rattle.std.proofs.Common.{◌≡◌, ℕ, zero, suc, ◌+◌, ◌-◌, ◌<◌, ◌≤◌, Bool, true, false, cond, eqb, leb, List, [], ◌∷◌, ◌++◌, length, take, drop, Ok, Err, sym, refl, ap, ◌∙◌, subst, ⊎_elim, true≢false, arith}
+use Rattle.std.proofs.Common.{◌≡◌, ℕ, zero, suc, ◌+◌, ◌-◌, ◌<◌, ◌≤◌, min, Bool, true, false, cond, eqb, leb, List, [], ◌∷◌, ◌++◌, length, take, drop, Ok, Err, sym, refl, ap, ◌∙◌, subst, ⊎_elim, true≢false, arith}
 use Rattle.std.specs.List.{prefix_len}
-use Rattle.std.proofs.lemmas.List.{append_assoc, append-nil, length_push}
+use Rattle.std.proofs.lemmas.List.{append_assoc, append-nil, length_push, take_min}
 use Rattle.std.proofs.lemmas.Bool.{cases_lt, ne_eqb, cond-true, cond-false, le-leb, lt-leb}
 use Rattle.markup.specs.declared.fault.Fault.{Fault}
 use Rattle.markup.specs.declared.fault.Refusal.TheVariants.{Misfit, TooManySteps, PatternNameTooLong}
@@ -25,7 +25,7 @@ pub shorter : (x y : Spot) (b : ℕ) → Accepted b x y true → length y.rest <
 shorter x y b a = omega (arith, ap length a.0)
 
 -- where the byte c does not come next, a phase that asks only about c goes on as another does
-other : (s u : State) (c : ℕ) (m : Move) (k : ℕ) (bs : List ℕ)
+pub other : (s u : State) (c : ℕ) (m : Move) (k : ℕ) (bs : List ℕ)
     → ((more : List ℕ) × (bs ≡ c ∷ more) → ⊥)
     → ((b : ℕ) → next_in limits s s.phase b ≡ cond (eqb b c) m (next_in limits u u.phase b))
     → finish s s.phase k ≡ finish u u.phase k
@@ -36,7 +36,7 @@ other s u c m k (b ∷ bs) not-next by end =
     ap (λ v. feed k v (λ t. run_in limits t (k + 1) bs)) (by b ∙ cond-false _ _ _ (ne_eqb b c (λ e. not-next (bs, ap (λ v. v ∷ bs) e))))
 
 -- and one that asks for c refuses
-stray : (s : State) (c : ℕ) (m : Move) (k : ℕ) (bs : List ℕ)
+pub stray : (s : State) (c : ℕ) (m : Move) (k : ℕ) (bs : List ℕ)
     → ((more : List ℕ) × (bs ≡ c ∷ more) → ⊥)
     → ((b : ℕ) → next_in limits s s.phase b ≡ cond (eqb b c) m (stop Misfit))
     → finish s s.phase k ≡ refused Misfit k
@@ -104,7 +104,7 @@ run_more false n m e = absurd (omega (arith, e))
 
 module _ (s : State) (e : Edge) where
   -- a name that has the bytes a, and one more
-  name_more : (a : List ℕ) (k b : ℕ) (bs : List ℕ) → name_byte b ≡ true → length a < 32 → run_in limits (to s (inside e a)) k (b ∷ bs) ≡ run_in limits (to s (inside e (a ++ b ∷ []))) (k + 1) bs
+  pub name_more : (a : List ℕ) (k b : ℕ) (bs : List ℕ) → name_byte b ≡ true → length a < 32 → run_in limits (to s (inside e a)) k (b ∷ bs) ≡ run_in limits (to s (inside e (a ++ b ∷ []))) (k + 1) bs
   unfolding run_in
   name_more a k b bs is few =
       ap (λ v. feed k v (λ t. run_in limits t (k + 1) bs)) (cond-true _ _ _ is ∙ cond-false _ _ _ (lt-leb 32 (length a) few))
@@ -126,7 +126,7 @@ module _ (s : State) (e : Edge) where
       ∙ name_rest bs n (a ++ b ∷ []) (k + 1) m.1 (omega (arith, few, length_push a b))
       ∙ (λ i. run_in limits (settle s e (append_assoc a (b ∷ []) (take n bs) i)) (z i) (drop n bs))
 
-  name_long : (bs : List ℕ) (n : ℕ) (a : List ℕ) (k : ℕ) → prefix_len name_byte bs ≡ n → length a ≤ 32 → 32 < length a + n
+  pub name_long : (bs : List ℕ) (n : ℕ) (a : List ℕ) (k : ℕ) → prefix_len name_byte bs ≡ n → length a ≤ 32 → 32 < length a + n
       → run_in limits (to s (inside e a)) k bs ≡ refused PatternNameTooLong (k + (32 - length a))
   unfolding run_in
   name_long [] n a k r few many = absurd (omega (arith, r, few, many))
@@ -179,6 +179,28 @@ module _ (s : State) (e : Edge) where
       name_first_byte k c cs b room
       ∙ name_rest cs n (c ∷ []) (k + 1) (run_more (name_byte c) _ n r).1 (omega (arith, few))
       ∙ (λ i. run_in limits (settle s e (c ∷ take n cs)) (z i) (drop n cs))
+
+-- within the first m bytes a run is not longer, and where it stops there it is the whole of it
+run_step : (v : Bool) (m n k : ℕ) → (n ≤ k) × (n < m → k ≡ n) → (cond v (1 + n) 0 ≤ cond v (1 + k) 0) × (cond v (1 + n) 0 < suc m → cond v (1 + k) 0 ≡ cond v (1 + n) 0)
+run_step true m n k h = (omega (arith, h.0), λ less. ap (λ j. 1 + j) (h.1 (omega (arith, less))))
+run_step false m n k h = (omega arith, λ less. refl)
+
+run_within : (m : ℕ) (bs : List ℕ) → (prefix_len name_byte (take m bs) ≤ prefix_len name_byte bs)
+    × (prefix_len name_byte (take m bs) < m → prefix_len name_byte bs ≡ prefix_len name_byte (take m bs))
+run_within zero bs = (omega arith, λ less. absurd (omega (arith, less)))
+run_within (suc m) [] = (omega arith, λ less. refl)
+run_within (suc m) (b ∷ bs) = run_step (name_byte b) m _ _ (run_within m bs)
+
+-- the bytes of a name, where those behind its first one are counted within the first 33
+pub name_run : (bs : List ℕ) (most n : ℕ) → begins_name bs ≡ true → most ≡ min (length bs) 33 → n ≡ prefix_len name_byte (take (most - 1) (drop 1 bs))
+    → (32 < 1 + n → 32 < prefix_len name_byte bs) × (1 + n ≤ 32 → prefix_len name_byte bs ≡ 1 + n)
+name_run [] most n b many r = absurd (true≢false (sym b))
+name_run (c ∷ cs) most n b many r =
+    let cut : most - 1 ≡ min 32 (length cs) = omega (arith, many) in
+    let is : n ≡ prefix_len name_byte (take 32 cs) = r ∙ ap (λ k. prefix_len name_byte (take k cs)) cut ∙ ap (prefix_len name_byte) (take_min 32 cs) in
+    let whole : prefix_len name_byte (c ∷ cs) ≡ 1 + prefix_len name_byte cs = ap (λ v. cond v (1 + prefix_len name_byte cs) 0) (first_is_byte c b) in
+    let w = run_within 32 cs in
+    (λ long. omega (arith, whole, is, w.0, long), λ short. whole ∙ ap (λ j. 1 + j) (w.1 (omega (arith, is, short)) ∙ sym is))
 
 -- a name has a byte
 pub name_some : (bs : List ℕ) → begins_name bs ≡ true → 0 < prefix_len name_byte bs

@@ -131,7 +131,9 @@ impl<'a> Cursor<'a> {
         if is_full {
             return Err(Refusal::TooManySteps.at(self.place));
         }
-        let len = scan::run::<NameBytes>(self.rest);
+        // Counted within one byte more than a name may have.
+        let most = self.rest.len().min(name::MOST_BYTES + 1);
+        let len = 1 + scan::run::<NameBytes>(&self.rest[1..most]);
         if len > name::MOST_BYTES {
             return Err(Refusal::PatternNameTooLong.at(self.place + name::MOST_BYTES));
         }

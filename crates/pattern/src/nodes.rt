@@ -20,7 +20,7 @@ pub(crate) struct Nodes {
 }
 
 impl Nodes {
-    ghost use Rattle.std.specs.Prelude.{◌<◌, [], ◌∷◌, ◌++◌, nat_le};
+    ghost use Rattle.std.specs.Prelude.{◌<◌, [], ◌∷◌, ◌++◌, nat_le, None};
     ghost use Rattle.pattern.specs.Nodes.{Hangs};
     ghost use Rattle.pattern.specs.Table.{items};
 
@@ -36,6 +36,18 @@ impl Nodes {
         Nodes {
             table: [blank; MOST_NODES],
             len: 0,
+        }
+    }
+
+    // The root alone.
+    pub(crate) fn root(name: Name) -> Nodes
+        ensures { items result ≡ record { name = name; hook = None } ∷ [] }
+    {
+        // Fills the unused places too.
+        let root = Node { name, hook: None };
+        Nodes {
+            table: [root; MOST_NODES],
+            len: 1,
         }
     }
 

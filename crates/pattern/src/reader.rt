@@ -49,6 +49,7 @@ impl<'a> Reader<'a> {
 
     // A step, then edges and steps, each on the one before; the last node's number.
     #[cycle(branch_step)]
+    #[inline(always)]
     pub(crate) fn branch(&mut self, hook: Option<Hook>, depth: usize) -> Result<usize, Fault>
         requires { Hangs hook (items self.old.nodes) }
         ensures told { Stepped hook depth self.old self.new result }

@@ -5,6 +5,9 @@ ghost use Rattle.pattern.specs.Shape.{shape, root_a};
 ghost use Rattle.pattern.specs.Reading.{read_pattern};
 ghost use Rattle.pattern.specs.Twig.{shape_of, Parsed, TurnedTo, Grammatical};
 
+use super::name::Name;
+use super::node::Mark;
+use super::nodes::Nodes;
 use super::reader::Reader;
 use super::twig::Twig;
 use markup::{Fault, Refusal};
@@ -32,7 +35,10 @@ impl Twig {
         ensures read { read_pattern (codes "//a") ≡ Ok (shape_of result) }
         ensures twig { shape_of result ≡ shape Any (root_a ∷ []) }
     {
-        parse(b"//a").unwrap()
+        Twig {
+            mark: Mark::Any,
+            nodes: Nodes::root(Name::new(b"a")),
+        }
     }
 
     // Turns the twig to that of the text. A text that is refused leaves it as it is.

@@ -1,5 +1,5 @@
 // The standard spelling: each node's last child follows by its edge, and the others stand in brackets before it.
-ghost use Rattle.std.specs.Prelude.{◌≡◌, ◌≤◌, length, Ok};
+ghost use Rattle.std.specs.Prelude.{◌≡◌, ◌≤◌, [], length, Ok};
 ghost use Rattle.pattern.specs.Grammar.{Spells};
 ghost use Rattle.pattern.specs.Reading.{up_to, read_pattern};
 ghost use Rattle.pattern.specs.Spelling.{spelling, close_text, open_text, lead_text};
@@ -46,11 +46,11 @@ fn lead_text(mark: Mark) -> &'static [u8]
 }
 
 impl Twig {
-    // The standard spelling.
-    fn spelled(&self) -> ArrayVec<u8, LONGEST_SPELLING>
-        ensures { result.items ≡ spelling (shape_of self.now) }
+    // Writes the standard spelling into an empty text.
+    fn spelled(&self, out: &mut ArrayVec<u8, LONGEST_SPELLING>)
+        requires { out.old.items ≡ [] }
+        ensures { out.new.items ≡ spelling (shape_of self.now) }
     {
-        let mut out = ArrayVec::new();
         for (number, node) in self.nodes.as_slice().iter().enumerate() {
             match node.hook {
                 None => out.try_extend_from_slice(lead_text(self.mark)).unwrap(),
@@ -64,7 +64,6 @@ impl Twig {
             }
             out.try_extend_from_slice(node.name.as_bytes()).unwrap();
         }
-        out
     }
 
     // Writes the standard spelling from byte 0 on; how many bytes that is. Where it does not fit, nothing is written.
@@ -73,9 +72,10 @@ impl Twig {
         ensures written { Written (spelling (shape_of self.now)) out.old out.new result }
         ensures standard { Spells (up_to 7) (spelling (shape_of self.now)) (shape_of self.now) }
         ensures back { read_pattern (spelling (shape_of self.now)) ≡ Ok (shape_of self.now) }
-        ensures short { length (spelling (shape_of self.now)) ≤ LONGEST_SPELLING }
+        ensures short { length (spelling (shape_of self.now)) ≤ 589 }
     {
-        let text = self.spelled();
+        let mut text = ArrayVec::new();
+        self.spelled(&mut text);
         let len = text.len();
         if len > out.len() {
             return Err(Refusal::SpellingWontFit.at(len));

@@ -1,6 +1,8 @@
-use Rattle.std.proofs.Common.{◌≡◌, false, true, Err, sym, ap, ◌∙◌, arith, rules}
+use Rattle.std.proofs.Common.{◌≡◌, ◌+◌, ◌≤◌, false, true, Err, sym, refl, ap, ◌∙◌, arith, rules}
+use Rattle.std.proofs.lemmas.List.Sums.{prefix_len-le-length}
+use Rattle.markup.specs.Name.{name_byte}
 use Rattle.pattern.specs.Moves.{begins_name}
-use Rattle.pattern.proofs.Steps.{name_not, name_full, name_too_long, name_read, name_some}
+use Rattle.pattern.proofs.Steps.{name_not, name_full, name_too_long, name_read, name_run}
 use Rattle.pattern.proofs.cursor.Cursor.name.Goals as goal
 use Rattle.pattern.proofs.cursor.Cursor.name.Goals.{Else-not-begins_name}
 
@@ -21,19 +23,16 @@ returns-then-is_full c =
 pub returns-then-len-gt-MOST_BYTES : goal.returns-then-len-gt-MOST_BYTES
 returns-then-len-gt-MOST_BYTES c =
     let b = begun (goal.at.returns-then-len-gt-MOST_BYTES c).Else-not-begins_name in
-    rw (← c.self.view_is) (λ s e room. name_too_long s e _ _ _ b (room ∙ c.if-is_full.false) (sym c.run-len.ensures.value) c.if-len-gt-MOST_BYTES.true ∙ ap Err (sym c.at-then-len-gt-MOST_BYTES.ensures))
-
-pub new-requires-clause-some : goal.new-requires-clause-some
-new-requires-clause-some c =
-    let b = begun (goal.at.new-requires-clause-some c).Else-not-begins_name in
-    omega (arith, name_some c.self.inside.rest.now b, c.run-len.ensures.value, c.split_at.ensures.front_len)
+    let run = name_run c.self.inside.rest.now _ _ b c.min-most.ensures c.run-len.ensures.value in
+    rw (← c.self.view_is) (λ s e room. name_too_long s e _ _ _ b (room ∙ c.if-is_full.false) refl (run.0 c.if-len-gt-MOST_BYTES.true) ∙ ap Err (sym c.at-then-len-gt-MOST_BYTES.ensures))
 
 pub returns : goal.returns
 returns c =
     let b = begun (goal.at.returns c).Else-not-begins_name in
-    let some = name_some c.self.inside.rest.now b in
+    let few : 1 + c.run-len.result ≤ 32 = omega (arith, c.if-len-gt-MOST_BYTES.false) in
+    let is = (name_run c.self.inside.rest.now _ _ b c.min-most.ensures c.run-len.ensures.value).1 few in
     rw (← c.self.view_is) (
-      omega (arith, some, c.run-len.ensures.value, c.run-len.ensures.within, c.split_at.ensures.back_len),
+      omega (arith, is, prefix_len-le-length name_byte c.self.inside.rest.now, c.split_at.ensures.back_len),
       c.if-is_full.false,
-      λ s e room. name_read s e _ _ _ b (room ∙ c.if-is_full.false) (sym c.run-len.ensures.value) (omega (arith, c.if-len-gt-MOST_BYTES.false)) ∙ search rules,
+      λ s e room. name_read s e _ _ _ b (room ∙ c.if-is_full.false) is few ∙ search rules,
     )

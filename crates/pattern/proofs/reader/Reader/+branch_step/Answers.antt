@@ -12,7 +12,7 @@ use Rattle.pattern.proofs.reader.Reader.+branch_step.Goals.{step-In_ok-edge, ste
 
 -- `branch`: to one more step
 pub branch-step-requires-in-loop-self : goal.branch-step-requires-in-loop-self
-branch-step-requires-in-loop-self t c = (omega (arith, c.loop-self.invariant.0.0, shorter _ _ _ c.loop-self-test.ensures, c.edge-edge.ensures.0), c.loop-self.invariant.0.2)
+branch-step-requires-in-loop-self t c = (omega (arith, c.loop-self.invariant.0.0, shorter _ _ _ c.loop-self-test.ensures, c.edge-edge.ensures.0), omega (arith, c.loop-self.invariant.0.2))
 
 pub branch-returns-in_err-last-2-clause-told : goal.branch-returns-in_err-last-2-clause-told
 branch-returns-in_err-last-2-clause-told t c =
