@@ -1,11 +1,10 @@
 // Standard input, in bulk.
 ghost use Rattle.std.specs.Prelude.{◌≤◌, IfOk, vec_len};
 
-use std::io;
 use std::io::Read;
 
 // All of standard input, or its first `most` bytes where it has more.
-pub fn read_up_to(rt: &HostRuntime, most: usize) -> io::Result<Vec<u8>>
+pub fn read_up_to(rt: &HostRuntime, most: usize) -> anyhow::Result<Vec<u8>>
     ensures { IfOk result (λ v. vec_len v ≤ most) }
 {
     // One byte more, so that the read that finds the end needs no more room.
