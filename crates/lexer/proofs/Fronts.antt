@@ -1,5 +1,6 @@
 -- An item that is granted is the front of the text, as it is written.
 use Rattle.std.proofs.Common.{◌≡◌, ℕ, suc, ◌+◌, ◌<◌, Bool, true, false, cond, not, eqb, List, [], ◌∷◌, ◌++◌, length, take, drop, Ok, sym, refl, ap, ◌∙◌, subst, ⊎_elim, arith, take-append-drop, length-take}
+use Rattle.std.proofs.Math.Seq.{drop-append_seam}
 use Rattle.std.specs.List.{prefix_len}
 use Rattle.std.proofs.lemmas.List.Sums.{prefix_len-le-length}
 use Rattle.std.proofs.lemmas.Bool.{cases_Bool, cond-false, eqb-true}
@@ -62,6 +63,10 @@ pub record ItemFront (bs : List ℕ) (i : Item) : Type 0 where
 
 pub item_front : (p b : ℕ) (bs : List ℕ) (i : Item) → item_at p (b ∷ bs) ≡ Ok i → ItemFront (b ∷ bs) i
 item_front p b bs i e = let h = item_begins p b bs i e in record { rest = h.0; spelled = h.2; some = lawful_some i h.0 h.1 }
+
+-- the rest by places
+pub front_rest : (bs : List ℕ) (i : Item) (f : ItemFront bs i) → drop (length (spelling i)) bs ≡ f.rest
+front_rest bs i f = ap (drop (length (spelling i))) f.spelled ∙ drop-append_seam (spelling i) f.rest
 
 pub item_some : (p b : ℕ) (bs : List ℕ) → Granted (λ i. 0 < length (spelling i)) (item_at p (b ∷ bs))
 item_some p b bs = granted_each _ (λ i e. (item_front p b bs i e).some)

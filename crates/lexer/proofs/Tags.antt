@@ -5,7 +5,7 @@ use Rattle.lexer.specs.Item.{Item, Tag, spelling}
 use Rattle.lexer.specs.Lex.{item_at}
 use Rattle.lexer.proofs.Behind.{ok_not_err}
 use Rattle.lexer.proofs.Judging.{Judged, same_item, judged}
-pub use Rattle.lexer.proofs.Reading.{tag_at}
+pub use Rattle.lexer.proofs.Reading.{tag_at, name_at_lem, not_slash}
 
 -- a tag at the front of the text, and what follows it
 abbrev pub TagFirst : List ℕ → Item → Type 0

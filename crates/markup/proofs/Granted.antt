@@ -21,6 +21,10 @@ pub chain : {X Y : Type 0} {Q : Y → Type 0} (P : X → Type 0) (r : Result X F
 chain P (Ok x) k h f = f x h.granted
 chain P (Err e) k h f = refuse e
 
+pub weaker : {X : Type 0} {P Q : X → Type 0} (r : Result X Fault) → ((x : X) → P x → Q x) → Granted P r → Granted Q r
+weaker (Ok x) f h = grant x (f x h.granted)
+weaker (Err e) f h = refuse e
+
 pub granted_each : {X : Type 0} {P : X → Type 0} (r : Result X Fault) → ((x : X) → r ≡ Ok x → P x) → Granted P r
 granted_each (Ok x) h = grant x (h x refl)
 granted_each (Err f) h = refuse f

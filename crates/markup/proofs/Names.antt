@@ -1,5 +1,5 @@
 -- Lawful names.
-use Rattle.std.proofs.Common.{◌≡◌, ℕ, ◌≤◌, true, List, [], ◌∷◌, length, get_or, take, sym, ap, ◌∙◌, true≢false, arith, length-take}
+use Rattle.std.proofs.Common.{◌≡◌, ℕ, ◌≤◌, true, cond, List, [], ◌∷◌, length, get_or, take, sym, ap, ◌∙◌, true≢false, arith, length-take}
 use Rattle.std.specs.List.{prefix_len, AllByRecursion-prop}
 use Rattle.std.proofs.Math.Bool.{Bool-set}
 use Rattle.std.proofs.Math.Bridge.{le_prop}
@@ -21,6 +21,11 @@ name_of bs n f h some short = record {
   first = ap name_first (get_or-take n bs 0 0 some) ∙ f;
   each = all_front name_byte n bs h;
 }
+
+-- all of such a run, if it is not too long
+pub name_of_run : (bs : List ℕ) → name_first (get_or bs 0 0) ≡ true → prefix_len name_byte bs ≤ 32 → LawfulName (take (prefix_len name_byte bs) bs)
+name_of_run [] f h = absurd (true≢false (sym f))
+name_of_run (b ∷ bs) f h = name_of (b ∷ bs) (prefix_len name_byte (b ∷ bs)) f (omega arith) (rw (first_is_byte b f, cond) (omega arith)) h
 
 -- a lawful name is one run of name bytes
 pub name_run : (name : List ℕ) → LawfulName name → prefix_len name_byte name ≡ length name

@@ -8,7 +8,7 @@ use Rattle.std.proofs.Math.Seq.{get_or-append_seam}
 use Rattle.markup.specs.Name.{LawfulName}
 use Rattle.layout.specs.declared.record.NameRecord.{NameRecord}
 use Rattle.layout.specs.Layout.{element_count, name_count, byte_count, name_at, name_text}
-use Rattle.layout.specs.Lawful.{RightName, names_end}
+use Rattle.layout.specs.Lawful.{FirstNamed, RightName, names_end}
 use Rattle.sheet.specs.Opening.{Each}
 use Rattle.layout.proofs.Firsts.{first_unique}
 use Rattle.sheet.specs.Links.{key_of, CheckedNames}
@@ -21,6 +21,21 @@ pub right_name : (bs first keys : List ℕ) (end j : ℕ) (n : NameRecord) (text
     → MatchBool (not b) (RightName bs (length keys)) (RightName bs (length keys) → ⊥)
 right_name bs first keys end j n text true c e small r o w h f t l m = grind arith
 right_name bs first keys end j n text false c e small r o w h f t l m = grind arith
+
+-- any name, from the parts of its record
+pub right_record : (bs : List ℕ) (j end : ℕ) (n : NameRecord) (b : Bool) → n ≡ name_at bs j → n.offset ≡ end → end ≡ names_end bs j
+    → n.offset + n.length ≤ byte_count bs → LawfulName (name_text bs j) → (n.first < element_count bs) × FirstNamed bs j 0 n.first
+    → MatchBool b ((i : ℕ) × (i < j) × (name_text bs i ≡ name_text bs j)) ((i : ℕ) → i < j → name_text bs i ≡ name_text bs j → ⊥)
+    → MatchBool (not b) (RightName bs j) (RightName bs j → ⊥)
+right_record bs j end n true e o p w t f r = λ right. right.different r.0 r.1 r.2
+right_record bs j end n false e o p w t f r = record {
+  follows = ap (λ (x : NameRecord). x.offset) (sym e) ∙ (o ∙ p);
+  within = subst (λ (x : NameRecord). x.offset + x.length ≤ byte_count bs) e w;
+  lawful = t;
+  has = subst (λ (x : NameRecord). x.first < element_count bs) e f.0;
+  first = subst (λ (x : NameRecord). FirstNamed bs j 0 x.first) e f.1;
+  different = r;
+}
 
 -- its record has the first element that the table has
 pub right_first : (bs first keys : List ℕ) (end j : ℕ) (n : NameRecord) → CheckedNames bs first keys end → j ≡ length keys → j < 1024 → n ≡ name_at bs j

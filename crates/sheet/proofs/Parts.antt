@@ -104,7 +104,7 @@ pub length_sheet : (es : List Element) (xs : List (Bor (List ℕ))) → length (
 length_sheet es xs = omega (arith, length-encoded es (bytes_of xs), length-bytes_of xs)
 
 -- the name table asks for the first elements of its own names alone
-names_same : (f g : ℕ → ℕ) (ts : List (List ℕ)) (j o : ℕ) → ((n : ℕ) → n < 1024 → f n ≡ g n) → j + length ts ≤ 1024 → name_table f ts j o ≡ name_table g ts j o
+pub names_same : (f g : ℕ → ℕ) (ts : List (List ℕ)) (j o : ℕ) → ((n : ℕ) → n < 1024 → f n ≡ g n) → j + length ts ≤ 1024 → name_table f ts j o ≡ name_table g ts j o
 names_same f g [] j o e h = refl
 names_same f g (t ∷ ts) j o e h =
     let p = e j (omega arith) in
