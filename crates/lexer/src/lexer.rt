@@ -155,11 +155,11 @@ impl<'t> Lexer<'t> {
         ensures moved { self.new.at ≡ behind self.old.at (answered result) }
         ensures parts { Parts self.old.text.now self.old.at result }
     {
-        let rest = self.rest();
-        if rest.bytes.is_empty() {
+        // No `is_empty` of the rest: with it the loop over a text run takes an instruction more for each byte.
+        if self.at == self.text.len() {
             return Ok(None);
         }
-        let token = rest.item_at()?;
+        let token = self.rest().item_at()?;
         self.at += token.whole().bytes.len();
         Ok(Some(token))
     }

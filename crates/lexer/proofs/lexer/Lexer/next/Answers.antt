@@ -1,4 +1,5 @@
 use Rattle.std.proofs.Common.{◌+◌, ◌<◌, ◌≤◌, length, ap, arith, tests}
+use Rattle.std.proofs.lemmas.List.{length-drop}
 use Rattle.lexer.specs.declared.token.Part.{Part}
 use Rattle.lexer.specs.Token.{whole_of, HandsOut}
 use Rattle.lexer.proofs.Steps.{next_found}
@@ -10,8 +11,8 @@ found : (c : After-whole) → let lexer = c.args.self.now in let t = c.in_ok-tok
     (lexer.at + length (whole_of t).bytes.now ≤ length lexer.text.now) × HandsOut lexer.text.now lexer.at t
 found c =
     let lexer = c.args.self.now in
-    let rest = c.rest-rest in
-    let more : 0 < length rest.result.bytes.now = grind (arith, tests) in
+    let rest = c.rest in
+    let more : 0 < length rest.result.bytes.now = grind (arith, tests, length-drop) in
     next_found lexer.text.now lexer.at c.in_ok-token.token rest.result.bytes.now rest.result.place rest.ensures.place rest.ensures.bytes more c.in_ok-token.ensures
 
 pub invariant_of-self : goal.invariant_of-self
