@@ -78,14 +78,13 @@ fn place(records: &Records, stack: &mut ArrayVec<u32, MOST_LEVELS>, k: u32) -> b
     if k > 0 && e.start <= records.element(k - 1).start {
         return false;
     }
-    let around = close(records, stack, k);
-    if let Some(end) = around
-        && end <= e.end
-    {
-        return false;
+    match close(records, stack, k) {
+        Some(end) if end <= e.end => return false,
+        // Only the first element has none around it.
+        None if k > 0 => return false,
+        _ => {}
     }
-    let depth = stack.len();
-    if depth != e.level as usize || (depth == 0 && k > 0) {
+    if stack.len() != e.level as usize {
         return false;
     }
     stack.push(k);
