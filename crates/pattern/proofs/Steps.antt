@@ -103,11 +103,16 @@ run_more true n m e = (refl, omega (arith, e))
 run_more false n m e = absurd (omega (arith, e))
 
 module _ (s : State) (e : Edge) where
-  -- a name that has the bytes a, and one more
+  -- a name that has the bytes a, and one more, for which there is room
   pub name_more : (a : List ℕ) (k b : ℕ) (bs : List ℕ) → name_byte b ≡ true → length a < 32 → run_in limits (to s (inside e a)) k (b ∷ bs) ≡ run_in limits (to s (inside e (a ++ b ∷ []))) (k + 1) bs
   unfolding run_in
   name_more a k b bs is few =
       ap (λ v. feed k v (λ t. run_in limits t (k + 1) bs)) (cond-true _ _ _ is ∙ cond-false _ _ _ (lt-leb 32 (length a) few))
+
+  -- and for which there is none
+  pub name_over : (a : List ℕ) (k b : ℕ) (bs : List ℕ) → name_byte b ≡ true → 32 ≤ length a → run_in limits (to s (inside e a)) k (b ∷ bs) ≡ refused PatternNameTooLong k
+  unfolding run_in
+  name_over a k b bs m l = ap (λ v. feed k v (λ t. run_in limits t (k + 1) bs)) (cond-true _ _ _ m ∙ cond-true _ _ _ (le-leb 32 (length a) l))
 
   -- the rest of a name, which n bytes are, and of one that is too long
   name_rest : (bs : List ℕ) (n : ℕ) (a : List ℕ) (k : ℕ) → prefix_len name_byte bs ≡ n → length a + n ≤ 32
@@ -141,8 +146,7 @@ module _ (s : State) (e : Edge) where
       ∙ ap (refused PatternNameTooLong) z)
       (λ (l : 32 ≤ length a).
       let z : k ≡ k + (32 - length a) = omega (arith, l) in
-      ap (λ v. feed k v (λ t. run_in limits t (k + 1) bs)) (cond-true _ _ _ m.0 ∙ cond-true _ _ _ (le-leb 32 (length a) l))
-      ∙ ap (refused PatternNameTooLong) z)
+      name_over a k b bs m.0 l ∙ ap (refused PatternNameTooLong) z)
       (cases_lt (length a) 32)
 
   -- after an edge: no name, a name for which there is no room, one that is too long, and one that is not
