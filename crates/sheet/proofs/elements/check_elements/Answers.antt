@@ -48,4 +48,4 @@ loop-k-preserved c =
     let p = c.if-not-place.ensures in
     let n = c.if-not-has_right_numbers.ensures in
     let name = ap (λ (e : Element). e.name) c.element.ensures in
-    (below_more _ _ i.0 (record { region = p.0; numbers = n }), p.1, rw add-one (search rules))
+    (below_more _ _ i.0 (record { region = p.0; numbers = n }), p.1, rw add-one (search rules), search rules)

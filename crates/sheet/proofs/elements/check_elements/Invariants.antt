@@ -1,4 +1,4 @@
-use Rattle.std.proofs.Common.{◌≡◌}
+use Rattle.std.proofs.Common.{◌≡◌, ◌≤◌, IfSome}
 use Rattle.layout.specs.Layout.{region_at}
 use Rattle.layout.specs.Lawful.{RightElement, used}
 use Rattle.sheet.specs.Opening.{Each}
@@ -8,4 +8,4 @@ use Rattle.sheet.proofs.elements.check_elements.Given as goal
 abbrev pub invariant-loop-k : goal.invariant-loop-k
 invariant-loop-k l =
     Each (RightElement l.records.bytes.now) l.k × Stack (region_at l.records.bytes.now) l.k (last_start (region_at l.records.bytes.now) l.k) l.stack.items
-    × (l.seen ≡ used l.records.bytes.now l.k)
+    × (l.seen ≡ used l.records.bytes.now l.k) × IfSome l.wrong (λ w. l.k ≤ w)
